@@ -1,0 +1,13 @@
+use native.Mathlib.Omega.{arith}
+use mathlib.Core.Path.{subst}
+use Prim.Native.Nat.{_+_}
+use Rattle.std.specs.Of.Vec.{vec-items}
+use Rattle.network.specs.Rows.{Legal}
+use Rattle.network.proofs.Rows.{Pushed, pushed}
+use Rattle.network.proofs.network.Network.push_row.Needs as need
+
+pub ghost-self : need.ghost-self
+ghost-self c =
+    let s = c .args .self .now in
+    let p : Pushed (s .inputs) (vec-items (s .table .rows)) (vec-items (c .push .last .self .rows)) = pushed (s .inputs) _ _ _ _ (c .push .ensures) (subst (λ n. Legal (s .inputs + n) (c .args .row)) (c .len-n .ensures) (c .is-legal .ensures .0 (c .if-not-is-legal .left))) (s .legal) in
+    (s .small, (omega arith, (p .all, (λ j h. omega (arith, s .exits j h), tt))))
