@@ -13,7 +13,7 @@ use denote.Struct.Props.{props}
 use Rattle.network.specs.declared.row.Function.{Function}
 use Rattle.network.specs.declared.row.Row.{Row}
 use Rattle.network.specs.Limits.{maxFanins, functionBytes}
-use Rattle.network.specs.Rows.{Legal, Lower, Unused, Clean, blank, noSignal, withFunction}
+use Rattle.network.specs.Rows.{Legal, Lower, Unused, Clean, Bytes, blank, noSignal, withFunction}
 
 -- each row is legal at its place
 abbrev pub Rows : ℕ → List Row → Type 0
@@ -31,6 +31,9 @@ unused-prop r = search props
 clean-prop : (n : ℕ) (f : Function) → IsProp (Clean n f)
 clean-prop n f = search props
 
+byte-prop : (f : Function) → IsProp (Bytes f)
+byte-prop f = search props
+
 size-prop : (m n : ℕ) → IsProp (m ≡ n)
 size-prop m n = search props
 
@@ -42,6 +45,7 @@ legal-prop s r p q = λ i. record {
   clean = clean-prop (r .count) (r .function) (p .clean) (q .clean) i;
   places = size-prop (length (r .fanins)) maxFanins (p .places) (q .places) i;
   bytes = size-prop (length (r .function .bytes)) functionBytes (p .bytes) (q .bytes) i;
+  byte = byte-prop (r .function) (p .byte) (q .byte) i;
 }
 
 -- a row's being legal is a fact with at most one proof, so the bars can go
@@ -49,8 +53,8 @@ pub legal-of : {s : ℕ} {r : Row} → ∥ Legal s r ∥₁ → Legal s r
 legal-of {s} {r} t = ∥∥₁-elim t (legal-prop s r) (λ o. o)
 
 -- the row with another clean function
-pub legal-with : (s : ℕ) (r : Row) (f : Function) → length (f .bytes) ≡ functionBytes → Clean (r .count) f → Legal s r → Legal s (withFunction r f)
-legal-with s r f w h o = record { few = o .few; lower = o .lower; unused = o .unused; clean = h; places = o .places; bytes = w }
+pub legal-with : (s : ℕ) (r : Row) (f : Function) → length (f .bytes) ≡ functionBytes → Bytes f → Clean (r .count) f → Legal s r → Legal s (withFunction r f)
+legal-with s r f w b h o = record { few = o .few; lower = o .lower; unused = o .unused; clean = h; places = o .places; bytes = w; byte = b }
 
 -- the rows after one of them was replaced
 pub legal-set : (i : ℕ) (xs : List Row) (n : ℕ) (x : Row) → n < length xs → Legal (i + n) x → Rows i xs → Rows i (set xs n x)

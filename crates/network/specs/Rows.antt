@@ -38,6 +38,10 @@ Unused r = (i : ℕ) → r .count ≤ i → fanin r i ≡ 0
 abbrev pub Clean : ℕ → Function → Type 0
 Clean c f = (y : ℕ) → 2 ^ c ≤ y → y < minterms → bitOf f y ≡ false
 
+-- every byte of the function is one
+abbrev pub Bytes : Function → Type 0
+Bytes f = (k : ℕ) → getD (f .bytes) k 0 < 256
+
 -- the row of signal s: at most 8 fanins, each a lower signal, and a function of their minterms alone.
 -- Equal nodes have equal rows, since what is not used is 0.
 pub record Legal (s : ℕ) (r : Row) : Type 0 where
@@ -47,6 +51,7 @@ pub record Legal (s : ℕ) (r : Row) : Type 0 where
   pub clean : Clean (r .count) (r .function)
   pub places : length (r .fanins) ≡ maxFanins
   pub bytes : length (r .function .bytes) ≡ functionBytes
+  pub byte : Bytes (r .function)
 
 -- what stands past the end of a list of rows
 abbrev pub blank : Row

@@ -5,7 +5,7 @@ ghost use lib.ListN.{length, getD};
 ghost use lib.Dec.{eqb};
 ghost use Rattle.std.specs.Orderings.{Decides};
 ghost use Rattle.network.specs.Limits.{maxFanins, functionBytes};
-ghost use Rattle.network.specs.Rows.{bitOf, Lower, Unused, Clean, Legal};
+ghost use Rattle.network.specs.Rows.{bitOf, Lower, Unused, Clean, Bytes, Legal};
 use crate::limits::FUNCTION_BYTES;
 use crate::limits::MAX_FANINS;
 use crate::limits::MINTERMS;
@@ -19,6 +19,7 @@ impl Function {
     fn len(self) -> usize
         ensures value { λ r. ⌜ r ≡ functionBytes ⌝ }
         ensures whole { λ _. ⌜ length (self .bytes) ≡ functionBytes ⌝ }
+        ensures byte { λ _. ⌜ Bytes self ⌝ }
     {
         self.bytes.len()
     }

@@ -4,7 +4,7 @@ ghost use lib.ListN.{length};
 ghost use Prim.Native.Nat.{_≤_};
 ghost use Rattle.std.specs.Options.{Cases as BySome};
 ghost use Rattle.network.specs.Limits.{maxFanins, functionBytes};
-ghost use Rattle.network.specs.Rows.{Legal, Lower, Unused, Clean};
+ghost use Rattle.network.specs.Rows.{Legal, Lower, Unused, Clean, Bytes};
 use crate::row::Row;
 use crate::row::Signal;
 
@@ -20,6 +20,7 @@ pub struct Node {
     ghost clean: { Clean (row .count) (row .function) },
     ghost places: { length (row .fanins) ≡ maxFanins },
     ghost bytes: { length (row .function .bytes) ≡ functionBytes },
+    ghost byte: { Bytes (row .function) },
 }
 
 impl Node {

@@ -1,0 +1,4 @@
+pub mod Causes
+pub mod Checks
+pub mod Bytes
+pub mod Jobs

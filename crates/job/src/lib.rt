@@ -1,0 +1,5 @@
+//! Job files: reading, with every refusal, and writing.
+pub mod denial;
+pub mod job;
+mod judge;
+pub mod scratch;

@@ -1,0 +1,3 @@
+pub mod Values
+pub mod Same
+pub mod Claims
