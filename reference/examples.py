@@ -27,13 +27,13 @@ TRIALS = 300
 # Building ------------------------------------------------------------------------------------
 
 
-def function(f: int, rule: Callable[..., object]) -> int:
+def function_of(f: int, rule: Callable[..., object]) -> int:
     """The function of f fanins that is 1 where `rule`, called with their values, is true."""
-    bits = 0
+    function = 0
     for minterm in range(2**f):
         if rule(*(minterm >> i & 1 for i in range(f))):
-            bits |= 1 << minterm
-    return bits
+            function |= 1 << minterm
+    return function
 
 
 class Builder:
@@ -61,7 +61,7 @@ class Builder:
 
     def rule(self, fanins: Sequence[int], rule: Callable[..., object]) -> int:
         """A node that is 1 where `rule`, called with the values of the fanins, is true."""
-        return self.node(fanins, function(len(fanins), rule))
+        return self.node(fanins, function_of(len(fanins), rule))
 
     def constant(self, value: int) -> int:
         """A node without fanins."""
@@ -335,9 +335,9 @@ def compare_bits(b: Builder, x: int, y: int) -> tuple[int, int, int]:
 
 def compare_parts(b: Builder, parts: list[tuple[int, int, int]]) -> tuple[int, int, int]:
     """The comparison of numbers from those of their parts, the lowest part first, four at most."""
-    greater = [g for g, _, _ in parts]
-    less = [l for _, l, _ in parts]
-    equal = [e for _, _, e in parts]
+    greater = [part[0] for part in parts]
+    less = [part[1] for part in parts]
+    equal = [part[2] for part in parts]
     return first_above(b, greater, equal), first_above(b, less, equal), b.and_(*equal)
 
 
@@ -353,8 +353,10 @@ def first_above(b: Builder, holds: list[int], equal: list[int]) -> int:
 
 
 def take_greater(greater: int, less: int, x: int, y: int) -> int:
-    """A bit of the greater number; if both or neither is said to be greater, bits of both."""
-    return greater and x or less and y or (greater == less and (x or y))
+    """A bit of the greater number; of equal numbers both bits are the same."""
+    if greater == less:
+        return x | y
+    return x if greater else y
 
 
 def comparator24_meaning(values: list[int]) -> list[int]:
@@ -438,7 +440,7 @@ def control() -> Job:
     for i in range(80):
         literals = draw.literals([lines[i % 32]], flags, 1 + draw.below(4))
         products.append(b.cube(literals))
-        products.append(b.cube(literals | draw.literals([], flags, 2)))
+        products.append(b.cube(draw.literals([], flags, 2) | literals))
     sums = [b.or_(*draw.dealt(products, s, 44)) for s in range(44)]
     products = [
         b.cube(draw.literals([sums[i % 44]], sums + flags, 2 + draw.below(4))) for i in range(110)
@@ -468,13 +470,17 @@ class Draw:
         return literals
 
     def dealt(self, signals: list[int], hand: int, hands: int) -> list[int]:
-        """One of several hands that together hold all signals, with up to three signals more."""
+        """One of several hands that together hold all signals, with up to four signals more."""
         dealt = signals[hand * len(signals) // hands : (hand + 1) * len(signals) // hands]
-        more = [signals[self.below(len(signals))] for _ in range(self.below(4))]
+        more = [signals[self.below(len(signals))] for _ in range(self.below(5))]
         return list(dict.fromkeys(dealt + more))
 
 
 # The files -----------------------------------------------------------------------------------
+
+
+# What the outputs are for given values of the inputs.
+Meaning = Callable[[list[int]], list[int]]
 
 
 @dataclass(frozen=True)
@@ -482,7 +488,7 @@ class Example:
     """A circuit and, if it has one, what its outputs mean in terms of its inputs."""
 
     build: Callable[[], Job]
-    meaning: Callable[[list[int]], list[int]] | None
+    meaning: Meaning | None
 
 
 EXAMPLES = [
@@ -511,16 +517,22 @@ def trial_values(rng: random.Random, trial: int, count: int) -> list[int]:
 
 
 def tried(example: Example) -> Job:
-    """The example's job, found to be accepted and to mean what it should on random inputs."""
+    """The example's job, found to be accepted and to mean what it should."""
     job = example.build()
     assert read(write(job)) == job, f"{example.build.__name__} is refused"
+    if example.meaning is not None:
+        try_meaning(job, example.meaning)
+    return job
+
+
+def try_meaning(job: Job, meaning: Meaning) -> None:
+    """Compares the outputs with what they should be, for some values of the inputs."""
     rng = random.Random(0)
-    for trial in range(TRIALS if example.meaning else 0):
+    for trial in range(TRIALS):
         values = trial_values(rng, trial, job.inputs)
         signals = evaluate(job, values)
         found = [signals[output] for output in job.outputs]
-        assert found == example.meaning(values), f"{example.build.__name__} is wrong on {values}"
-    return job
+        assert found == meaning(values), f"{meaning.__name__} is not met on {values}"
 
 
 def main() -> int:

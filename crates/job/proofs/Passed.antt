@@ -59,7 +59,7 @@ upto-all : (f : ℕ → List Check) (n : ℕ) → ((i : ℕ) → i < n → verdi
 upto-all f zero h = refl
 upto-all f (suc n) h = append-pass (upto n f) (f n) (upto-all f n (λ i l. h i (omega arith))) ∙ h n (omega arith)
 
-record-fits : (bs : List ℕ) (s at size : ℕ) → verdict (recordChecks bs s at size) ≡ None → Fits bs s at size
+pub record-fits : (bs : List ℕ) (s at size : ℕ) → verdict (recordChecks bs s at size) ≡ None → Fits bs s at size
 record-fits bs s at size h =
     let f = byteAt bs at in
     let last : Check = strayCheck bs f (at + 1 + 2 * f) in
@@ -112,7 +112,7 @@ passed bs h =
       fits = λ n l. record-fits bs _ _ _ (upto-each (nodeChecks bs) (nodesOf bs) n r l);
     }
 
-record-passes : (bs : List ℕ) (s at size : ℕ) → Fits bs s at size → verdict (recordChecks bs s at size) ≡ None
+pub record-passes : (bs : List ℕ) (s at size : ℕ) → Fits bs s at size → verdict (recordChecks bs s at size) ≡ None
 record-passes bs s at size k =
     let f = byteAt bs at in
     let few : byteAt bs at ≤ maxFanins = k .few in

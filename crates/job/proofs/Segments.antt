@@ -10,15 +10,11 @@ use Rattle.std.proofs.shelf.Lists.{append-assoc, append-nil, take-more, take-al
 use Rattle.network.specs.Rows.{noSignal}
 use Rattle.network.specs.declared.row.Signal.{Signal}
 use Rattle.job.specs.Checks.{byteAt, wordAt}
-use Rattle.job.specs.Bytes.{le16, signalBytes}
+use Rattle.job.specs.Bytes.{le16, signalBytes, seg}
 
 -- every element is a byte
 abbrev pub AreBytes : List ℕ → Type 0
 AreBytes bs = (i : ℕ) → getD bs i 0 < 256
-
--- n bytes from a place on
-unfoldable pub seg : List ℕ → ℕ → ℕ → List ℕ
-seg bs a n = take n (drop a bs)
 
 pub seg-none : (bs : List ℕ) (a : ℕ) → seg bs a 0 ≡ []
 unfolding seg

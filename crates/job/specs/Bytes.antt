@@ -19,6 +19,11 @@ signalBytes ss = joined (λ s. le16 (s .0)) ss
 abbrev pub recordOf : Row → List ℕ
 recordOf r = r .count ∷ signalBytes (take (r .count) (r .fanins)) ++ take (widthOf (r .count)) (r .function .bytes)
 
+-- how many bytes the records of some rows have
+abbrev pub sizes : List Row → ℕ
+sizes [] = 0
+sizes (r ∷ rs) = recordSize (r .count) + sizes rs
+
 -- offset and length of each record, where the first starts at a place
 abbrev pub pairsFrom : ℕ → List Row → List ℕ
 pairsFrom at [] = []
@@ -30,3 +35,7 @@ encode net = (net .inputs ∷ length (net .outputs) ∷ le16 (length (net .rows)
     ++ (pairsFrom (4 + 4 * length (net .rows) + 2 * length (net .outputs)) (net .rows)
     ++ (signalBytes (net .outputs)
     ++ joined recordOf (net .rows)))
+
+-- n bytes from a place on
+unfoldable pub seg : List ℕ → ℕ → ℕ → List ℕ
+seg bs a n = take n (drop a bs)

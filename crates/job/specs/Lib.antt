@@ -1,4 +1,5 @@
 pub mod Causes
 pub mod Checks
 pub mod Bytes
+pub mod Loads
 pub mod Jobs

@@ -2,4 +2,5 @@
 pub mod denial;
 pub mod job;
 mod judge;
+mod load;
 pub mod scratch;
