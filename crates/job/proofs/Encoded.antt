@@ -16,7 +16,7 @@ use Rattle.network.specs.declared.row.Row.{Row}
 use Rattle.job.specs.Checks.{maxOutputs, byteAt, wordAt, inputsOf, outputsOf, nodesOf, offsetOf, lengthOf, outputPlace, headEnd, dueOf, widthOf, recordSize}
 use Rattle.job.specs.Bytes.{le16, signalBytes, recordOf, sizes, pairsFrom, encode}
 use Rattle.job.proofs.Functions.{wide, clean-first}
-use Rattle.job.proofs.Sizes.{Sound, joined-append, sizes-append, pairs-append, length-signals, length-pairs, length-record}
+use Rattle.job.proofs.Sizes.{Sound, joined-append, sizes-append, sizes-more, sizes-within, pairs-append, length-signals, length-pairs, length-record}
 use Rattle.job.proofs.Passed.{Fits, Passed}
 
 -- a byte and a word behind other bytes
@@ -87,10 +87,10 @@ record-there xs ys s at r l e =
     }
 
 -- every row of a legal network has a record of its length
-sound-of : {s : ℕ} {r : Row} → Legal s r → Sound r
+pub sound-of : {s : ℕ} {r : Row} → Legal s r → Sound r
 sound-of l = record { few = l .few; places = l .places; bytes = l .bytes }
 
-length-records : (rs : List Row) → ((n : ℕ) → n < length rs → Sound (getD rs n blank)) → length (joined recordOf rs) ≡ sizes rs
+pub length-records : (rs : List Row) → ((n : ℕ) → n < length rs → Sound (getD rs n blank)) → length (joined recordOf rs) ≡ sizes rs
 length-records [] h = refl
 length-records (r ∷ rs) h =
     let a = length-append (recordOf r) (joined recordOf rs) in
@@ -111,9 +111,6 @@ module _ (net : Net) (legal : LegalNet net) where
 
   sound : (n : ℕ) → n < nodes net → Sound (rowAt net n)
   sound n l = sound-of (legal .row n l)
-
-  sizes-more : (n : ℕ) → n < nodes net → sizes (take (n + 1) (net .rows)) ≡ sizes (take n (net .rows)) + recordSize (rowAt net n .count)
-  sizes-more n l = ap sizes (take-more (net .rows) n blank l) ∙ sizes-append (take n (net .rows)) (rowAt net n ∷ []) ∙ ap (λ v. sizes (take n (net .rows)) + v) (add-zero (recordSize (rowAt net n .count)))
 
   pub length-encode : length (encode net) ≡ first + sizes (net .rows)
   unfolding encode
@@ -170,7 +167,7 @@ module _ (net : Net) (legal : LegalNet net) where
   due-of (suc n) l =
       let h : n < nodes net = omega arith in
       let e : suc n ≡ n + 1 = sym (add-one n) in
-      omega (arith, offset-of n h, length-of n h, sizes-more n h, ap (λ m. sizes (take m (net .rows))) e)
+      omega (arith, offset-of n h, length-of n h, sizes-more (net .rows) n h, ap (λ m. sizes (take m (net .rows))) e)
 
   output-of : (j : ℕ) → j < length (net .outputs) → wordAt (encode net) (outputPlace (encode net) j) ≡ outputAt net j
   unfolding encode
@@ -233,5 +230,4 @@ module _ (net : Net) (legal : LegalNet net) where
     where
       within-of : (n : ℕ) → n < nodes net → offsetOf (encode net) n + lengthOf (encode net) n ≤ length (encode net)
       within-of n l =
-          let split : sizes (net .rows) ≡ sizes (take (n + 1) (net .rows)) + sizes (drop (n + 1) (net .rows)) = ap sizes (sym (take-append-drop (n + 1) (net .rows))) ∙ sizes-append (take (n + 1) (net .rows)) (drop (n + 1) (net .rows)) in
-          omega (arith, offset-of n l, length-of n l, sizes-more n l, length-encode)
+          omega (arith, offset-of n l, length-of n l, sizes-more (net .rows) n l, sizes-within (net .rows) (n + 1), length-encode)

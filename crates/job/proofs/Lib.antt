@@ -7,3 +7,5 @@ pub mod Sizes
 pub mod Loads
 pub mod Encoded
 pub mod Same
+pub mod Splices
+pub mod Trips

@@ -6,8 +6,9 @@ use native.Mathlib.Omega.{arith}
 use native.Mathlib.Nat.{add-zero, add-assoc}
 use lib.ListN.{length, getD, take, drop}
 use Rattle.std.specs.Joined.{joined}
-use Rattle.std.proofs.shelf.Lists.{append-assoc, append-nil, joined-more, length-append, length-take-le}
+use Rattle.std.proofs.shelf.Lists.{append-assoc, append-nil, joined-more, length-append, length-take-le, take-more, take-append-drop}
 use Rattle.network.specs.Limits.{maxFanins, functionBytes}
+use Rattle.network.specs.Rows.{blank}
 use Rattle.network.specs.declared.row.Row.{Row}
 use Rattle.network.specs.declared.row.Signal.{Signal}
 use Rattle.job.specs.Checks.{recordSize, widthOf}
@@ -24,6 +25,13 @@ joined-append f (x ∷ xs) ys = ap (λ v. f x ++ v) (joined-append f xs ys) ∙ 
 pub sizes-append : (xs ys : List Row) → sizes (xs ++ ys) ≡ sizes xs + sizes ys
 sizes-append [] ys = omega arith
 sizes-append (x ∷ xs) ys = let h = sizes-append xs ys in omega arith
+
+pub sizes-more : (rs : List Row) (n : ℕ) → n < length rs → sizes (take (n + 1) rs) ≡ sizes (take n rs) + recordSize (getD rs n blank .count)
+sizes-more rs n l = ap sizes (take-more rs n blank l) ∙ sizes-append (take n rs) (getD rs n blank ∷ []) ∙ ap (λ v. sizes (take n rs) + v) (add-zero (recordSize (getD rs n blank .count)))
+
+-- some rows have no more bytes than all
+pub sizes-within : (rs : List Row) (n : ℕ) → sizes (take n rs) ≤ sizes rs
+sizes-within rs n = let e : sizes rs ≡ sizes (take n rs) + sizes (drop n rs) = ap sizes (sym (take-append-drop n rs)) ∙ sizes-append (take n rs) (drop n rs) in omega arith
 
 pub pairs-append : (at : ℕ) (xs ys : List Row) → pairsFrom at (xs ++ ys) ≡ pairsFrom at xs ++ pairsFrom (at + sizes xs) ys
 pairs-append at [] ys = ap (λ n. pairsFrom n ys) (sym (add-zero at))
@@ -62,3 +70,11 @@ length-record r s =
     let d : length (take (widthOf (r .count)) (r .function .bytes)) ≡ widthOf (r .count) = length-take-le (widthOf (r .count)) (r .function .bytes) m in
     let t = length-append (signalBytes (take (r .count) (r .fanins))) (take (widthOf (r .count)) (r .function .bytes)) in
     omega arith
+
+-- a record's length, at the most
+pub record-most : (c : ℕ) → c ≤ maxFanins → recordSize c ≤ 49
+record-most c h = let m = wide c h .most in omega arith
+
+-- a record that is one of some ends with them
+pub record-ends : (rs qs : List Row) (n first at room : ℕ) → rs ≡ qs → n < length rs → at ≡ first + sizes (take n rs) → first + sizes qs ≤ room → at + recordSize (getD rs n blank .count) ≤ room
+record-ends rs qs n first at room e l h most = let s = sizes-within rs (n + 1) in let m = sizes-more rs n l in let q = ap sizes e in omega arith

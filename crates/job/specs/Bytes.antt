@@ -39,3 +39,7 @@ encode net = (net .inputs ∷ length (net .outputs) ∷ le16 (length (net .rows)
 -- n bytes from a place on
 unfoldable pub seg : List ℕ → ℕ → ℕ → List ℕ
 seg bs a n = take n (drop a bs)
+
+-- a list with others written over it from a place on
+unfoldable pub splice : List ℕ → ℕ → List ℕ → List ℕ
+splice o a x = take a o ++ (x ++ drop (a + length x) o)

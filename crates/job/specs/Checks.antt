@@ -14,6 +14,10 @@ use Rattle.job.specs.declared.denial.Cause.the-variants.{HeadShort, CountRange
 abbrev pub maxOutputs : ℕ
 maxOutputs = 48
 
+-- the length of the longest job
+abbrev pub maxFileLength : ℕ
+maxFileLength = 4 + 4 * maxNodes + 2 * maxOutputs + maxNodes * (1 + 2 * maxFanins + 2 ^ maxFanins / 8)
+
 -- a check: whether it holds, and the refusal where it does not
 pub record Check : Type 0 where
   pub holds : Bool

@@ -31,7 +31,8 @@ abbrev pub Writes : Net → List ℕ → Result ℕ Cause → List ℕ → Type 
 Writes net out (Ok n) out′ = (n ≡ length (encode net)) × (n ≤ length out) × (out′ ≡ encode net ++ drop n out)
 Writes net out (Err c) out′ = (c ≡ OutputShort) × (length out < length (encode net)) × (out′ ≡ out)
 
-abbrev SameAgain : Net → Result Job ReadError → Type 0
+-- the network that is read, unless memory is wanting
+abbrev pub SameAgain : Net → Result Job ReadError → Type 0
 SameAgain net (Ok j) = jobNet j ≡ net
 SameAgain net (Err (Refused d)) = ⊥
 SameAgain net (Err NoMemory) = Unit {0}

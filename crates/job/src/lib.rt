@@ -3,4 +3,4 @@ pub mod denial;
 pub mod job;
 mod judge;
 mod load;
-pub mod scratch;
+mod store;
