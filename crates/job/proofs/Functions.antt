@@ -103,7 +103,7 @@ module _ (c : ℕ) (f : Function) (h : c ≤ maxFanins) (long : length (f .bytes
     | inr g ↦ getD-past (f .bytes) k 0 (omega arith)
     | inl s ↦ let w = wide c h in
         let b : getD (f .bytes) k 0 < 2 ^ 0 = high-clear 8 (getD (f .bytes) k 0) 0 (byte k)
-            (λ i p q. sym (bit-of k i q) ∙ clean (8 * k + i) (let z = w .holds in omega arith) (omega arith)) in
+        (λ i p q. sym (bit-of k i q) ∙ clean (8 * k + i) (let z = w .holds in omega arith) (omega arith)) in
         omega arith
   ]
 

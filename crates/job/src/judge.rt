@@ -185,7 +185,10 @@ fn check_record(bytes: &[u8], signal: usize, at: usize, size: usize) -> Result<(
     requires { ⌜ at + size ≤ length (now bytes) ⌝ }
     ensures { λ r. ⌜ errPart r ≡ verdict (recordChecks (now (bytes .entry)) signal at size) ⌝ }
 {
-    if size == 0 || bytes[at] as usize > MAX_FANINS || size != 1 + 2 * bytes[at] as usize + width(bytes[at]) {
+    if size == 0
+        || bytes[at] as usize > MAX_FANINS
+        || size != 1 + 2 * bytes[at] as usize + width(bytes[at])
+    {
         return Err(Refusal {
             cause: Cause::RecordShape,
             place: at,

@@ -131,7 +131,12 @@ pub fn store(out: &mut [u8], network: &Network)
     let outputs = network.outputs();
     let head = 4 + 4 * nodes;
     let first = head + 2 * outputs.len();
-    put_counts(out, network.inputs() as u8, outputs.len() as u8, nodes as u16);
+    put_counts(
+        out,
+        network.inputs() as u8,
+        outputs.len() as u8,
+        nodes as u16,
+    );
     put_pairs(out, network, first);
     put_signals(out, head, outputs);
     put_records(out, network, first);

@@ -4,4 +4,4 @@ pub mod limits;
 pub mod network;
 pub mod node;
 pub mod row;
-pub mod table;
+mod table;

@@ -3,6 +3,7 @@ ghost use mathlib.Core.Path.{_≡_};
 ghost use Prim.Native.Nat.{ℕ, _<_, _≤_};
 ghost use lib.ListN.{length};
 ghost use Rattle.std.specs.Options.{Cases as BySome};
+ghost use Rattle.std.specs.Of.Vec.{vec-items};
 ghost use Rattle.std.specs.Vec.{made};
 ghost use Rattle.network.specs.Rows.{Clean};
 ghost use Rattle.network.specs.Nets.{nodes, rowAt, replaced};
@@ -20,6 +21,7 @@ use crate::store::file_len;
 use crate::store::store;
 use network::network::Network;
 use network::row::Function;
+use std::alloc::AllocError;
 use std::alloc::Global;
 
 impl Job {
@@ -90,6 +92,15 @@ impl Job {
         ensures reopens { λ _. ⌜ Reopens (now (self .entry)) ⌝ }
     {
         self.write_file(out)
+    }
+
+    /// The job file in memory of its own.
+    pub fn to_bytes(&self, heap: Global) -> Result<Vec<u8>, AllocError>
+        ensures { λ r. ⌜ made r (λ v. vec-items v ≡ encode (jobNet (now (self .entry)))) ⌝ }
+    {
+        let mut bytes = vec![in heap; 0u8; self.file_len()]?;
+        store(&mut bytes, &self.network);
+        Ok(bytes)
     }
 
     /// Gives node n another function.

@@ -40,9 +40,10 @@ loop-n-again c =
     let rs = c .rows-rows .result .now in
     let n = c .loop-n .n in
     let l : n < length rs = c .loop-n-test .taken in
-    let room : 4 + 4 * n + 4 ≤ length (c .args .out .now) = omega (arith, c .pre .within, ap length (c .rows-rows .ensures .value)) in
-    (pair-more (c .args .out .now) (c .loop-n .out) (c .put-word .last .out) (c .put-word-in-loop-n .last .out) rs n (c .args .first) (c .loop-n .at) (c .record-len-len .result) l room (c .loop-n .inv .0) (c .loop-n .inv .1) (c .record-len-len .ensures) (c .put-word .ensures) (c .put-word-in-loop-n .ensures),
-    omega (arith, c .loop-n .inv .1, c .record-len-len .ensures, sizes-more rs n l))
+    let room : 4 + 4 * n + 4 ≤ length (c .args .out .now) = omega (arith, c .pre .within, ap length (c .rows-rows .ensures .value)) in (
+      pair-more (c .args .out .now) (c .loop-n .out) (c .put-word .last .out) (c .put-word-in-loop-n .last .out) rs n (c .args .first) (c .loop-n .at) (c .record-len-len .result) l room (c .loop-n .inv .0) (c .loop-n .inv .1) (c .record-len-len .ensures) (c .put-word .ensures) (c .put-word-in-loop-n .ensures),
+      omega (arith, c .loop-n .inv .1, c .record-len-len .ensures, sizes-more rs n l),
+    )
 
 pub returns : need.returns
 returns c =

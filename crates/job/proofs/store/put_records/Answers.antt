@@ -50,9 +50,10 @@ loop-n-again c =
     let l : n < length rs = c .loop-n-test .taken in
     let e = c .rows-rows .ensures .value in
     let place = front (netOf (c .args .network .now)) rs n (c .args .first) (c .loop-n .at) (c .rows-rows .ensures .legal) e (omega arith) (c .loop-n .inv .1) in
-    let room = record-ends rs (netOf (c .args .network .now) .rows) n (c .args .first) (c .loop-n .at) (length (c .args .out .now)) e l (c .loop-n .inv .1) (c .pre) in
-    (splice-more recordOf rs n blank (c .args .out .now) (c .loop-n .out) (c .put-record .last .out) (c .args .first) (c .loop-n .at) l (c .loop-n .inv .0) place (omega (arith, room)) (c .put-record .ensures),
-    omega (arith, c .loop-n .inv .1, c .record-len-at .ensures, sizes-more rs n l))
+    let room = record-ends rs (netOf (c .args .network .now) .rows) n (c .args .first) (c .loop-n .at) (length (c .args .out .now)) e l (c .loop-n .inv .1) (c .pre) in (
+      splice-more recordOf rs n blank (c .args .out .now) (c .loop-n .out) (c .put-record .last .out) (c .args .first) (c .loop-n .at) l (c .loop-n .inv .0) place (omega (arith, room)) (c .put-record .ensures),
+      omega (arith, c .loop-n .inv .1, c .record-len-at .ensures, sizes-more rs n l),
+    )
 
 pub returns : need.returns
 returns c =
