@@ -1,6 +1,6 @@
 //! Why a job is not read or not written, and at which byte.
 ghost use mathlib.Core.Path.{_≡_};
-ghost use Rattle.job.specs.Causes.{numberOf, wordsOf};
+ghost use Rattle.job.specs.Causes.{numberOf, Says};
 
 /// What is wrong. `specs/Causes.antt` gives each cause its number.
 #[derive(Clone, Copy, PartialEq, Eq, Drop)]
@@ -52,7 +52,7 @@ impl Cause {
 
     /// The cause in words, for a person.
     pub fn words(self) -> &'static str
-        ensures { λ r. ⌜ now r ≡ wordsOf self ⌝ }
+        ensures { λ r. ⌜ Says self (now r) ⌝ }
     {
         match self {
             Cause::HeadShort => "the file ends in its head",

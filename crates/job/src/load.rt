@@ -82,6 +82,7 @@ fn push_legal(network: &mut Network, row: Row) -> Result<(), AllocError>
         Err(PushError::NoMemory) => Err(AllocError),
         Err(PushError::Full) => unreachable(),
         Err(PushError::Illegal) => unreachable(),
+        Err(PushError::NoSignal) => unreachable(),
     }
 }
 
@@ -95,6 +96,7 @@ fn push_signal(network: &mut Network, signal: Signal) -> Result<(), AllocError>
         Err(PushError::NoMemory) => Err(AllocError),
         Err(PushError::Full) => unreachable(),
         Err(PushError::Illegal) => unreachable(),
+        Err(PushError::NoSignal) => unreachable(),
     }
 }
 

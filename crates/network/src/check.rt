@@ -24,12 +24,18 @@ impl Function {
         self.bytes.len()
     }
 
+    /// Byte k; 0 past the last.
+    fn byte(&self, k: usize) -> u8
+        ensures { λ r. ⌜ r ≡ getD (now (self .entry) .bytes) k 0 ⌝ }
+    {
+        if k < FUNCTION_BYTES { self.bytes[k] } else { 0 }
+    }
+
     /// The value at a minterm; 0 at a number that is no minterm of any node.
     pub fn bit(&self, y: Minterm) -> bool
         ensures { λ r. ⌜ r ≡ bitOf (now (self .entry)) (y .0) ⌝ }
     {
-        let at = y.0 as usize / 8;
-        at < FUNCTION_BYTES && (self.bytes[at] >> (y.0 % 8)) % 2 == 1
+        (self.byte(y.0 as usize / 8) >> (y.0 % 8)) % 2 == 1
     }
 
     /// Whether no bit at or above 2^count is set.

@@ -10,6 +10,7 @@ use crate::row::Signal;
 use crate::table::Table;
 
 mod ops;
+mod parts;
 
 /// Signals below `inputs` are primary inputs, and signal inputs + n is node n. Every row is legal at
 /// its place, so fanins are lower signals and no walk over the rows meets a cycle; every output is a
@@ -30,7 +31,9 @@ pub struct Network {
 pub enum PushError {
     /// It has as many nodes as a network may have.
     Full,
-    /// The row cannot be that of the next node, or the output is no signal.
+    /// The row cannot be that of the next node.
     Illegal,
+    /// The output is no signal.
+    NoSignal,
     NoMemory,
 }

@@ -4,9 +4,11 @@ ghost use mathlib.Core.Bool.{cond};
 ghost use mathlib.Core.List.{[], _∷_, _++_};
 ghost use Prim.Native.Nat.{ℕ, _+_, _<_, _≤_};
 ghost use lib.ListN.{length, getD, set};
+ghost use Rattle.std.specs.Options.{Cases as BySome};
 ghost use Rattle.std.specs.Results.{isOk};
 ghost use Rattle.std.specs.Of.Vec.{vec-items};
-ghost use Rattle.network.specs.Rows.{blank};
+ghost use Rattle.network.specs.Rows.{blank, withFunction};
+use crate::row::Function;
 use crate::row::Row;
 use std::alloc::Global;
 use std::alloc::Refused;
@@ -38,11 +40,15 @@ impl Table {
         self.rows.as_slice()
     }
 
-    pub fn row(&self, n: usize) -> Row
-        requires { ⌜ n < length (vec-items (now self .rows)) ⌝ }
-        ensures { λ r. ⌜ r ≡ getD (vec-items (now (self .entry) .rows)) n blank ⌝ }
+    /// Row n, if there is one.
+    pub fn get(&self, n: usize) -> Option<Row>
+        ensures { λ r. ⌜ BySome r (length (vec-items (now (self .entry) .rows)) ≤ n) (λ x. (n < length (vec-items (now (self .entry) .rows))) × (x ≡ getD (vec-items (now (self .entry) .rows)) n blank)) ⌝ }
     {
-        self.rows[n]
+        if n < self.rows.len() {
+            Some(self.rows[n])
+        } else {
+            None
+        }
     }
 
     pub fn push(&mut self, row: Row) -> Result<(), Refused<Row>>
@@ -51,10 +57,13 @@ impl Table {
         self.rows.push(row)
     }
 
-    pub fn put(&mut self, n: usize, row: Row)
+    /// Gives row n another function; the row is written whole.
+    pub fn set_function(&mut self, n: usize, function: Function)
         requires { ⌜ n < length (vec-items (now self .rows)) ⌝ }
-        ensures { λ _. ⌜ vec-items (now (self .exit) .rows) ≡ set (vec-items (now (self .entry) .rows)) n row ⌝ }
+        ensures { λ _. ⌜ vec-items (now (self .exit) .rows) ≡ set (vec-items (now (self .entry) .rows)) n (withFunction (getD (vec-items (now (self .entry) .rows)) n blank) function) ⌝ }
     {
+        let mut row = self.rows[n];
+        row.function = function;
         self.rows[n] = row;
     }
 }

@@ -2,11 +2,12 @@
 ghost use mathlib.Core.Path.{_≡_};
 ghost use mathlib.Core.Bool.{cond};
 ghost use Prim.Native.Nat.{ℕ, _+_, _<_, _≤_};
+ghost use lib.Dec.{leb, ltb};
 ghost use lib.ListN.{length, getD};
 ghost use Rattle.std.specs.Options.{Cases as BySome};
-ghost use Rattle.network.specs.Limits.{maxInputs};
+ghost use Rattle.network.specs.Limits.{maxInputs, maxNodes};
 ghost use Rattle.network.specs.Rows.{Clean};
-ghost use Rattle.network.specs.Nets.{nodes, rowAt, LegalNet, bare, replaced};
+ghost use Rattle.network.specs.Nets.{nodes, size, rowAt, bare, replaced};
 ghost use Rattle.network.specs.Parts.{netOf, NodeIs, PushesRow, PushesOutput};
 use super::Network;
 use super::PushError;
@@ -34,47 +35,45 @@ impl Network {
         })
     }
 
-    pub fn inputs(&self) -> usize
-        ensures { λ r. ⌜ r ≡ netOf (now (self .entry)) .inputs ⌝ }
+    /// How many signals there are.
+    pub fn signals(&self) -> usize
+        ensures { λ r. ⌜ r ≡ size (netOf (now (self .entry))) ⌝ }
     {
-        self.inputs
+        self.inputs + self.table.len()
     }
 
-    /// The rows, row n being that of node n.
-    pub fn rows(&self) -> &[Row]
-        ensures value { λ r. ⌜ now r ≡ netOf (now (self .entry)) .rows ⌝ }
-        ensures legal { λ _. ⌜ LegalNet (netOf (now (self .entry))) ⌝ }
+    /// Whether there is such a signal.
+    pub fn is_signal(&self, signal: Signal) -> bool
+        ensures { λ r. ⌜ r ≡ ltb (signal .0) (size (netOf (now (self .entry)))) ⌝ }
     {
-        self.table.rows()
+        (signal.0 as usize) < self.signals()
     }
 
-    /// The signals of the outputs.
-    pub fn outputs(&self) -> &[Signal]
-        ensures value { λ r. ⌜ now r ≡ netOf (now (self .entry)) .outputs ⌝ }
-        ensures legal { λ _. ⌜ LegalNet (netOf (now (self .entry))) ⌝ }
+    /// Whether no further node is taken.
+    fn is_full(&self) -> bool
+        ensures { λ r. ⌜ r ≡ leb maxNodes (nodes (netOf (now (self .entry)))) ⌝ }
     {
-        self.outputs.as_slice()
+        self.table.len() >= MAX_NODES
     }
 
     /// Node n, if there is one.
     pub fn node(&self, n: usize) -> Option<Node>
         ensures { λ r. ⌜ BySome r (nodes (netOf (now (self .entry))) ≤ n) (λ m. NodeIs m (netOf (now (self .entry)) .inputs + n) (rowAt (netOf (now (self .entry))) n)) ⌝ }
     {
-        if n >= self.table.len() {
-            return None;
+        match self.table.get(n) {
+            Some(row) => Node::from_row(Signal((self.inputs + n) as u16), row),
+            None => None,
         }
-        Node::from_row(Signal((self.inputs + n) as u16), self.table.row(n))
     }
 
     /// One node more.
     pub fn push_row(&mut self, row: Row) -> Result<(), PushError>
         ensures { λ r. ⌜ PushesRow (netOf (now (self .entry))) row r (netOf (now (self .exit))) ⌝ }
     {
-        let n = self.table.len();
-        if n >= MAX_NODES {
+        if self.is_full() {
             return Err(PushError::Full);
         }
-        if !row.is_legal(Signal((self.inputs + n) as u16)) {
+        if !row.is_legal(Signal(self.signals() as u16)) {
             return Err(PushError::Illegal);
         }
         match self.table.push(row) {
@@ -87,8 +86,8 @@ impl Network {
     pub fn push_output(&mut self, signal: Signal) -> Result<(), PushError>
         ensures { λ r. ⌜ PushesOutput (netOf (now (self .entry))) signal r (netOf (now (self .exit))) ⌝ }
     {
-        if signal.0 as usize >= self.inputs + self.table.len() {
-            return Err(PushError::Illegal);
+        if !self.is_signal(signal) {
+            return Err(PushError::NoSignal);
         }
         match self.outputs.push(signal) {
             Ok(()) => Ok(()),
@@ -102,8 +101,6 @@ impl Network {
         requires clean { ⌜ Clean (rowAt (netOf (now self)) n .count) f ⌝ }
         ensures { λ _. ⌜ netOf (now (self .exit)) ≡ replaced (netOf (now (self .entry))) n f ⌝ }
     {
-        let mut row = self.table.row(n);
-        row.function = f;
-        self.table.put(n, row);
+        self.table.set_function(n, f);
     }
 }

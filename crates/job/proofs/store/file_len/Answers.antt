@@ -9,7 +9,7 @@ pub returns : need.returns
 returns c =
     let net = netOf (c .args .network .now) in
     let rows = ap length (c .rows .ensures .value) in
-    let outputs = ap length (c .outputs .ensures .value) in
+    let outputs = ap length (c .outputs .ensures) in
     let few = c .rows .ensures .legal .few-nodes in
     record {
       value = omega (arith, length-encode net (c .rows .ensures .legal), c .records-len .ensures .value);

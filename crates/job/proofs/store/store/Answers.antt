@@ -21,21 +21,21 @@ pub put-pairs-requires : need.put-pairs-requires
 put-pairs-requires c κs =
     let whole = length-encode (netOf (c .args .network .now)) (c .rows-nodes .ensures .legal) in
     let rows = ap length (c .rows-nodes .ensures .value) in
-    let outputs = ap length (c .outputs-outputs .ensures .value) in
+    let outputs = ap length (c .outputs-outputs .ensures) in
     record { within = omega (arith, c .pre .within); few = omega (arith, c .pre .fits) }
 
 pub put-signals-requires : need.put-signals-requires
 put-signals-requires c κs =
     let whole = length-encode (netOf (c .args .network .now)) (c .rows-nodes .ensures .legal) in
     let rows = ap length (c .rows-nodes .ensures .value) in
-    let outputs = ap length (c .outputs-outputs .ensures .value) in
+    let outputs = ap length (c .outputs-outputs .ensures) in
     omega (arith, c .pre .within)
 
 pub put-records-requires : need.put-records-requires
 put-records-requires c κs =
     let whole = length-encode (netOf (c .args .network .now)) (c .rows-nodes .ensures .legal) in
     let rows = ap length (c .rows-nodes .ensures .value) in
-    let outputs = ap length (c .outputs-outputs .ensures .value) in
+    let outputs = ap length (c .outputs-outputs .ensures) in
     omega (arith, c .pre .within)
 
 -- the four parts are the whole
@@ -58,4 +58,4 @@ pub returns : need.returns
 returns c =
     let net = netOf (c .args .network .now) in
     whole net (c .rows-nodes .result .now) (c .outputs-outputs .result .now) (c .inputs .result) (c .args .out .now) (c .put-counts .last .out) (c .put-pairs .last .out) (c .put-signals .last .out) (c .put-records .last .out)
-    (c .rows-nodes .ensures .value) (c .outputs-outputs .ensures .value) (c .inputs .ensures) (c .put-counts .ensures) (c .put-pairs .ensures) (c .put-signals .ensures) (c .put-records .ensures) (length-encode net (c .rows-nodes .ensures .legal)) (c .pre .within)
+    (c .rows-nodes .ensures .value) (c .outputs-outputs .ensures) (c .inputs .ensures) (c .put-counts .ensures) (c .put-pairs .ensures) (c .put-signals .ensures) (c .put-records .ensures) (length-encode net (c .rows-nodes .ensures .legal)) (c .pre .within)

@@ -1,24 +1,16 @@
-use mathlib.Core.Path.{sym, ap}
-use Rattle.job.specs.Causes.{wordsOf}
+use mathlib.Core.Path.{sym, subst, refl}
+use lib.Chars.{codes}
+use Rattle.job.specs.Causes.{Says}
 use Rattle.job.proofs.denial.Cause.words.Needs as need
 
 pub returns-in-HeadShort : need.returns-in-HeadShort
-returns-in-HeadShort c = sym (ap wordsOf (c .in-HeadShort .is))
-
-pub returns-in-CountRange : need.returns-in-CountRange
-returns-in-CountRange c = sym (ap wordsOf (c .in-CountRange .is))
+returns-in-HeadShort c = subst (λ x. Says x (codes "the file ends in its head")) (sym (c .in-HeadShort .is)) refl
 
 pub returns-in-PairLine : need.returns-in-PairLine
-returns-in-PairLine c = sym (ap wordsOf (c .in-PairLine .is))
-
-pub returns-in-RecordShape : need.returns-in-RecordShape
-returns-in-RecordShape c = sym (ap wordsOf (c .in-RecordShape .is))
+returns-in-PairLine c = subst (λ x. Says x (codes "a pair is out of line or past the end")) (sym (c .in-PairLine .is)) refl
 
 pub returns-in-SignalRange : need.returns-in-SignalRange
-returns-in-SignalRange c = sym (ap wordsOf (c .in-SignalRange .is))
+returns-in-SignalRange c = subst (λ x. Says x (codes "a fanin is not lower, or an output is no signal")) (sym (c .in-SignalRange .is)) refl
 
 pub returns-in-StrayBit : need.returns-in-StrayBit
-returns-in-StrayBit c = sym (ap wordsOf (c .in-StrayBit .is))
-
-pub returns-in-OutputShort : need.returns-in-OutputShort
-returns-in-OutputShort c = sym (ap wordsOf (c .in-OutputShort .is))
+returns-in-StrayBit c = subst (λ x. Says x (codes "a function bit at or above 2^f is set")) (sym (c .in-StrayBit .is)) refl

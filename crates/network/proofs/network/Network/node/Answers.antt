@@ -18,7 +18,8 @@ known : (o : Option Node) (s : Signal) (r q : Row) (P : Type 0) → r ≡ q → 
 known None s r q P e l h = absurd (h (subst (Legal (s .0)) (sym e) l))
 known (Some n) s r q P e l h = let a = h .1 in let b = h .2 in (let z : n .signal .0 ≡ s .0 = cc in z, b ∙ e)
 
-pub returns : need.returns
-returns c =
+pub returns-in-Some : need.returns-in-Some
+returns-in-Some c =
     let s = c .args .self .now in
-    known (c .from-row .result) _ (c .row .result) (rowAt (netOf s) (c .args .n)) _ (c .row .ensures) (legal-of (s .legal (c .args .n) (omega arith))) (c .from-row .ensures)
+    let got = c .in-Some .ensures tt in
+    known (c .from-row .result) _ (c .in-Some .row) (rowAt (netOf s) (c .args .n)) _ (got .1) (legal-of (s .legal (c .args .n) (got .0))) (c .from-row .ensures)

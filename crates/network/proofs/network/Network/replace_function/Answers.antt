@@ -13,7 +13,6 @@ pub ghost-self : need.ghost-self
 ghost-self c =
     let s = c .args .self .now in
     let byte : Bytes (c .args .f) = search needs in
-    let new : Legal (s .inputs + c .args .n) (withFunction (c .row-row .result) (c .args .f)) =
-    subst (λ r. Legal (s .inputs + c .args .n) (withFunction r (c .args .f))) (sym (c .row-row .ensures)) (legal-with _ _ (c .args .f) (omega arith) byte (c .pre .clean) (legal-of (s .legal (c .args .n) (c .pre .within)))) in
-    let same : length (vec-items (c .put .last .self .rows)) ≡ length (vec-items (s .table .rows)) = simp length-set at (ap length (c .put .ensures)) in
-    (s .small, (omega arith, (subst (Rows (s .inputs)) (sym (c .put .ensures)) (legal-set _ _ (c .args .n) _ (c .pre .within) new (s .legal)), (λ j h. omega (arith, s .exits j h), tt))))
+    let new = legal-with _ _ (c .args .f) (omega arith) byte (c .pre .clean) (legal-of (s .legal (c .args .n) (c .pre .within))) in
+    let same : length (vec-items (c .set-function .last .self .rows)) ≡ length (vec-items (s .table .rows)) = simp length-set at (ap length (c .set-function .ensures)) in
+    (s .small, (omega arith, (subst (Rows (s .inputs)) (sym (c .set-function .ensures)) (legal-set _ _ (c .args .n) _ (c .pre .within) new (s .legal)), (λ j h. omega (arith, s .exits j h), tt))))
