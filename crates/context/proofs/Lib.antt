@@ -1,0 +1,12 @@
+pub mod Any
+pub mod Counts
+pub mod Ranks
+pub mod Care
+pub mod Dull
+pub mod Levels
+pub mod Reaches
+pub mod Windows
+pub mod Extracts
+pub mod Made
+pub mod Replaced
+pub mod Rules
