@@ -1,12 +1,17 @@
 //! Does one job from start to end, and prints each thing that it did.
 use job::denial::ReadError;
 use job::job::Job;
+use logic::evaluate::outputs;
 use network::network::Network;
+use network::row::Assignment;
 use network::row::Minterm;
 use network::row::Row;
+use network::row::Signal;
 use std::alloc::Global;
 use std::error::AnyError;
 use std::io::Read;
+use window::context::Context;
+use window::scope::Scope;
 
 /// The function's bits, the one at the highest minterm first.
 fn function_bits(heap: Global, row: &Row) -> Result<String, AnyError> {
@@ -22,13 +27,19 @@ fn function_bits(heap: Global, row: &Row) -> Result<String, AnyError> {
     Ok(text)
 }
 
-fn fanins(heap: Global, row: &Row) -> Result<String, AnyError> {
+/// Signals, with a blank before each.
+fn signals(heap: Global, all: &[Signal]) -> Result<String, AnyError> {
     let mut text = String::new(heap);
-    for fanin in row.fanins.iter().take(row.count as usize) {
-        let signal = fanin.0;
-        text.push_str(format!(heap, " {signal}")?.as_str())?;
+    for signal in all {
+        let number = signal.0;
+        text.push_str(format!(heap, " {number}")?.as_str())?;
     }
     Ok(text)
+}
+
+fn fanins(heap: Global, row: &Row) -> Result<String, AnyError> {
+    let count = (row.count as usize).min(row.fanins.len());
+    signals(heap, &row.fanins[0..count])
 }
 
 fn show_network(rt: &LibcRuntime, network: &Network) -> Result<(), AnyError> {
@@ -46,6 +57,58 @@ fn show_network(rt: &LibcRuntime, network: &Network) -> Result<(), AnyError> {
     for (j, output) in network.outputs().iter().enumerate() {
         let signal = output.0;
         println!(rt, "  output {j}: signal {signal}")?;
+    }
+    Ok(())
+}
+
+/// The outputs under the first assignments.
+fn show_outputs(rt: &LibcRuntime, network: &Network) -> Result<(), AnyError> {
+    let inputs = network.inputs();
+    let last = if inputs < 3 { 1u64 << inputs } else { 8 };
+    println!(rt, "values:")?;
+    for x in 0..last {
+        let bits = outputs(network, Assignment(x));
+        println!(rt, "  assignment {x}: outputs {bits}")?;
+    }
+    Ok(())
+}
+
+/// The context of a node, as a network of its own.
+fn show_context(
+    rt: &LibcRuntime,
+    network: &Network,
+    n: usize,
+    scope: Scope,
+) -> Result<(), AnyError> {
+    match Context::build(rt.alloc(), network, n, scope) {
+        Ok(context) => {
+            let leaves = signals(rt.alloc(), context.leaves())?;
+            let target = context.target();
+            let inputs = context.network().inputs();
+            println!(
+                rt,
+                "    {inputs} leaves, signals{leaves}; target: node {target}; members and roots:"
+            )?;
+            show_network(rt, context.network())
+        }
+        Err(refusal) => {
+            let number = refusal.number().unwrap_or(0);
+            println!(rt, "    refused with {number}")?;
+            Ok(())
+        }
+    }
+}
+
+fn show_contexts(rt: &LibcRuntime, network: &Network) -> Result<(), AnyError> {
+    for n in 0..network.rows().len() {
+        println!(rt, "node {n} in the whole context:")?;
+        show_context(rt, network, n, Scope::Whole)?;
+        println!(rt, "node {n} in the window of levels 1 and 1:")?;
+        let near = Scope::Window {
+            inward: 1,
+            outward: 1,
+        };
+        show_context(rt, network, n, near)?;
     }
     Ok(())
 }
@@ -159,6 +222,8 @@ fn run(rt: &LibcRuntime) -> Result<(), AnyError> {
         "read {length} bytes: {inputs} inputs, {nodes} nodes, {outputs} outputs"
     )?;
     show_network(rt, job.network())?;
+    show_outputs(rt, job.network())?;
+    show_contexts(rt, job.network())?;
     let written = job.to_bytes(heap)?;
     let length = written.len();
     let same = if written == bytes {

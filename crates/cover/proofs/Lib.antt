@@ -1,0 +1,13 @@
+pub mod Bits
+pub mod Bytes
+pub mod Shapes
+pub mod Listed
+pub mod Strikes
+pub mod Expansion
+pub mod Gathering
+pub mod Pruning
+pub mod Primes
+pub mod Covering
+pub mod Irredundancy
+pub mod Laid
+pub mod Claims

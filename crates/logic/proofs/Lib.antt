@@ -1,0 +1,13 @@
+pub mod SameTrits
+pub mod Digits
+pub mod Places
+pub mod Pairs
+pub mod Halves
+pub mod Fronts
+pub mod Folds
+pub mod Builds
+pub mod Walks
+pub mod Depends
+pub mod Turns
+pub mod Outputs
+pub mod TritLaws

@@ -1,0 +1,3 @@
+pub mod Rolls
+pub mod Adding
+pub mod Signals

@@ -1,0 +1,9 @@
+pub mod Functions
+pub mod Marks
+pub mod Steps
+pub mod Entries
+pub mod Fanins
+pub mod Numbers
+pub mod Leads
+pub mod Copies
+pub mod Built

@@ -1,0 +1,9 @@
+pub mod Limits
+pub mod Refusals
+pub mod Scopes
+pub mod Sets
+pub mod Entries
+pub mod Numbers
+pub mod Parts
+pub mod Contexts
+pub mod Laws
