@@ -466,14 +466,19 @@ def step(author: Author, board: str, manner: Manner) -> None:
 
 
 def begin(author: Author, board: str, manner: Manner) -> None:
-    """Begins an examination, and settles how it is to be conducted."""
+    """Begins an examination; a board without nodes gets another network."""
+    call_begin(author, board, manner.windows)
+    if not author.board(board).job.nodes:
+        author.open(board, write(manner.draw_network(author.rng)))
+
+
+def call_begin(author: Author, board: str, windows: float) -> None:
+    """Writes a begin; if it is accepted, a habit is drawn."""
     rng, stands = author.rng, author.board(board)
-    words = draw_context(rng, manner.windows)
+    words = draw_context(rng, windows)
     answer = author.call("begin", board, draw_target(rng, stands.job), *words)
     if answer.startswith("ok") and stands.examination is not None:
         author.habits[board] = draw_habit(author, stands.examination.context)
-    elif not stands.job.nodes:
-        author.open(board, write(manner.draw_network(rng)))
 
 
 def draw_habit(author: Author, examined: Context) -> Habit:
@@ -534,10 +539,7 @@ def stray_call(author: Author, board: str, manner: Manner) -> None:
         again = rng.random() < 0.3
         author.open(board, write(stands.job) if again else write(manner.draw_network(rng)))
     elif kind <= 3:
-        words = draw_context(rng, 0.6)
-        answer = author.call("begin", board, draw_target(rng, stands.job), *words)
-        if answer.startswith("ok") and stands.examination is not None:
-            author.habits[board] = draw_habit(author, stands.examination.context)
+        call_begin(author, board, 0.6)
     elif kind <= 5:
         author.call("look", board, rng.choice(author.finders), draw_stray_budget(rng, stands))
     elif kind == 6:
