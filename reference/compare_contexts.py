@@ -11,13 +11,13 @@ from __future__ import annotations
 
 import argparse
 import random
-import subprocess
 import sys
 from collections import Counter
 from functools import partial
 
 from compare_runs import KINDS
 from contexts import Levels, Refused, context
+from drive import differences
 from job import Job, Node, write
 from sessions import wide_network
 
@@ -61,7 +61,7 @@ def main() -> int:
 
     rng = random.Random(options.seed)
     lines: list[str] = []
-    answers: list[str] = []
+    answers: list[str | None] = []
     for n in range(options.count):
         network = rng.choice(KINDS + WIDE)(rng)
         lines.append(f"open b{n} {write(network).hex()}")
@@ -71,20 +71,8 @@ def main() -> int:
             levels = draw_levels(rng)
             lines.append(f"context b{n} {node} " + ("whole" if levels is None else f"{levels[0]} {levels[1]}"))
             answers.append(due(network, node, levels))
-    script = "".join(line + "\n" for line in lines).encode()
-    run = subprocess.run([options.program], input=script, capture_output=True, timeout=120, check=False)
-    got = run.stdout.decode().splitlines()
-
-    differ = 0
-    for i, line in enumerate(lines):
-        there = got[i] if i < len(got) else "nothing"
-        if there != answers[i]:
-            differ += 1
-            print(f"{line[:200]}\n  due: {answers[i][:300]}\n  got: {there[:300]}")
-    if len(got) > len(lines) or run.returncode != 0:
-        differ += 1
-        print(f"{len(got)} answers, exit status {run.returncode}")
-    seen = Counter(" ".join(answer.split()[:2]) if answer.startswith("no") else "ok" for answer in answers)
+    differ = differences(options.program, lines, answers)
+    seen = Counter(" ".join(str(answer).split()[:2]) if str(answer).startswith("no") else "ok" for answer in answers)
     print(", ".join(f"{kind}: {count}" for kind, count in sorted(seen.items())))
     missing = [kind for kind in ("ok", "no 8", "no 9", "no 10") if not seen[kind]]
     if missing:

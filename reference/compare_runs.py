@@ -11,9 +11,9 @@ from __future__ import annotations
 
 import argparse
 import random
-import subprocess
 import sys
 
+from drive import differences
 from job import Job, write
 from session import Session
 from sessions import (
@@ -57,21 +57,8 @@ def main() -> int:
 
     rng = random.Random(options.seed)
     lines = [line for n in range(options.count) for line in lines_for(rng, f"b{n}")]
-    script = "".join(line + "\n" for line in lines).encode()
-    answered = subprocess.run([options.program], input=script, capture_output=True, timeout=60, check=False)
-    got = answered.stdout.decode().splitlines()
     session = Session()
-    due = [session.answer(line.encode()) for line in lines]
-
-    differ = 0
-    for i, line in enumerate(lines):
-        there = got[i] if i < len(got) else "nothing"
-        if there != due[i]:
-            differ += 1
-            print(f"{line[:200]}\n  due: {due[i]}\n  got: {there[:200]}")
-    if len(got) > len(lines) or answered.returncode != 0:
-        differ += 1
-        print(f"{len(got)} answers, exit status {answered.returncode}")
+    differ = differences(options.program, lines, [session.answer(line.encode()) for line in lines])
     print(f"{len(lines)} compared, {differ} differ")
     return 1 if differ or not lines else 0
 
