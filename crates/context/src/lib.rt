@@ -1,4 +1,6 @@
 //! Theorems about care and about contexts: each is the contract of a function that has nothing to compute.
+#![tactic(auto)]
+
 ghost use Rattle.std.specs.Prelude.{◌≡◌, ℕ, ◌+◌, ◌^◌, ◌<◌, ◌≤◌, Bool, true, false, List, length, None, Decides, ◌≢◌, slice_index};
 ghost use Rattle.network.specs.Limits.{max_inputs};
 ghost use Rattle.network.specs.Rows.{bit_at, bit_of};

@@ -1,4 +1,5 @@
 //! Covers of a node: cubes, expansion, irredundancy.
+#![tactic(auto)]
 mod care;
 pub mod cover;
 pub mod cube;

@@ -1,4 +1,6 @@
 //! Job files: reading, with every refusal, and writing.
+#![tactic(auto)]
+
 pub mod denial;
 pub mod job;
 mod judge;

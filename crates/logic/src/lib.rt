@@ -1,4 +1,6 @@
 //! Logics, and the one walk over the nodes of a network that serves them all.
+#![tactic(auto)]
+
 pub mod bits;
 pub mod dependents;
 pub mod evaluate;

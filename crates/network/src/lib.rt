@@ -1,4 +1,6 @@
 //! Boolean networks: signals, nodes and their functions.
+#![tactic(auto)]
+
 pub mod check;
 pub mod limits;
 pub mod network;

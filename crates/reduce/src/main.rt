@@ -1,4 +1,5 @@
 //! Reads a job on standard input, and writes it on standard output.
+#![tactic(auto)]
 use job::denial::{ReadError, Refusal};
 use job::job::Job;
 use std::alloc::AllocError;

@@ -1,4 +1,6 @@
 //! Rolls: entries of one kind, ascending and no two equal, in a list that the caller supplies.
+#![tactic(auto)]
+
 pub mod added;
 mod enter;
 pub mod order;

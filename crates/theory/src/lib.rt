@@ -1,4 +1,6 @@
 //! Theorems about networks: each is the contract of a function that has nothing to compute.
+#![tactic(auto)]
+
 ghost use Rattle.std.specs.Prelude.{◌≡◌, ℕ, ◌^◌, ◌<◌, Bool, None, Option};
 ghost use Rattle.network.specs.Rows.{bit_at};
 ghost use Rattle.network.specs.Nets.{Net, nodes, row_at, LegalNet, replaced};

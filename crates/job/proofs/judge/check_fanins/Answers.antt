@@ -4,8 +4,8 @@ use Rattle.job.specs.Checks.{verdict, upto, fanin_checks}
 use Rattle.job.proofs.Verdicts.{upto-more, upto-stop}
 use Rattle.job.proofs.judge.check_fanins.Goals as goal
 
-pub returns-in-err-check-fanin : goal.returns-in-err-check-fanin
-returns-in-err-check-fanin c = let p = err_from_is_err_and c.from-residual.result c.from-residual.ensures.1 in
+pub returns-in_err-check_fanin : goal.returns-in_err-check_fanin
+returns-in_err-check_fanin c = let p = err_from_is_err_and c.from_residual.result c.from_residual.ensures.1 in
     rw (p.1, p.2) (sym (upto-stop (fanin_checks c.args.bytes.now c.args.signal c.args.at) c.loop-i.i c.args.f _ (search rules) c.loop-i.invariant (sym c.in-err-check-fanin.ensures)))
 
 pub loop-i-preserved : goal.loop-i-preserved

@@ -4,8 +4,8 @@ use Rattle.job.specs.Checks.{verdict, upto, pair_checks, nodes_of, due_of}
 use Rattle.job.proofs.Verdicts.{upto-more, upto-stop, due-more}
 use Rattle.job.proofs.judge.check_pairs.Goals as goal
 
-pub returns-in-err-due : goal.returns-in-err-due
-returns-in-err-due c = let p = err_from_is_err_and c.from-residual.result c.from-residual.ensures.1 in
+pub returns-in_err-due : goal.returns-in_err-due
+returns-in_err-due c = let p = err_from_is_err_and c.from_residual.result c.from_residual.ensures.1 in
     rw (p.1, p.2) (record { judged = sym (upto-stop (pair_checks c.args.bytes.now) c.loop-n.n (nodes_of c.args.bytes.now) _ (search rules) c.loop-n.invariant.0 (sym c.in-err-due.ensures.judged)); end = tt })
 
 pub loop-n-preserved : goal.loop-n-preserved

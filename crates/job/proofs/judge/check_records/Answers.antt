@@ -4,13 +4,13 @@ use Rattle.job.specs.Checks.{verdict, upto, node_checks, nodes_of}
 use Rattle.job.proofs.Verdicts.{upto-more, upto-stop, same-record, pair-within}
 use Rattle.job.proofs.judge.check_records.Goals as goal
 
-pub check-record-requires : goal.check-record-requires
-check-record-requires c =
+pub check_record-requires : goal.check_record-requires
+check_record-requires c =
     let l : c.loop-n.n < nodes_of c.args.bytes.now = omega arith in
     omega (arith, pair-within c.args.bytes.now (nodes_of c.args.bytes.now) c.loop-n.n c.requires.pairs l)
 
-pub returns-in-err-check-record : goal.returns-in-err-check-record
-returns-in-err-check-record c = let p = err_from_is_err_and c.from-residual.result c.from-residual.ensures.1 in
+pub returns-in_err-check_record : goal.returns-in_err-check_record
+returns-in_err-check_record c = let p = err_from_is_err_and c.from_residual.result c.from_residual.ensures.1 in
     let bs = c.args.bytes.now in
     let l : c.loop-n.n < nodes_of c.args.bytes.now = omega arith in
     rw (p.1, p.2) (sym (upto-stop (node_checks bs) c.loop-n.n (nodes_of bs) _ l c.loop-n.invariant (sym (c.in-err-check-record.ensures ∙ same-record bs c.loop-n.n _ _ c.word-offset.ensures c.word-size.ensures))))

@@ -10,6 +10,6 @@ returns c =
     let outputs = ap length c.outputs.ensures in
     let few = c.rows.ensures.legal.few_nodes in
     record {
-      value = omega (arith, length-encode net c.rows.ensures.legal, c.records-len.ensures.value);
-      most = omega (arith, c.records-len.ensures.most, c.requires);
+      value = omega (arith, length-encode net c.rows.ensures.legal, c.records_len.ensures.value);
+      most = omega (arith, c.records_len.ensures.most, c.requires);
     }

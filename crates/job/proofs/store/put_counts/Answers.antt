@@ -11,4 +11,4 @@ returns c =
     let w = le16 c.args.nodes in
     let one : set o 0 i ≡ splice o 0 (i ∷ []) = splice-set o 0 i (omega (arith, c.requires)) in
     let two : set (set o 0 i) 1 j ≡ splice o 0 (i ∷ j ∷ []) = splice-set (set o 0 i) 1 j (simp length-set (omega (arith, c.requires))) ∙ ap (λ v. splice v 1 (j ∷ [])) one ∙ splice-splice o 0 1 (i ∷ []) (j ∷ []) refl (omega (arith, c.requires)) in
-    c.put-word.ensures ∙ ap (λ v. splice v 2 w) two ∙ splice-splice o 0 2 (i ∷ j ∷ []) w refl (omega (arith, c.requires))
+    c.put_word.ensures ∙ ap (λ v. splice v 2 w) two ∙ splice-splice o 0 2 (i ∷ j ∷ []) w refl (omega (arith, c.requires))

@@ -16,8 +16,8 @@ use Rattle.job.proofs.store.put_records.Goals as goal
 pub loop-n-init : goal.loop-n-init
 loop-n-init c = (sym (splice-none c.args.out.now c.args.first), sym (add-zero c.args.first))
 
-pub put-record-requires : goal.put-record-requires
-put-record-requires c =
+pub put_record-requires : goal.put_record-requires
+put_record-requires c =
     let rs = c.rows-rows.result.now in
     let e = c.rows-rows.ensures.value in
     record {
@@ -25,10 +25,10 @@ put-record-requires c =
       within = omega (arith, record-ends rs (net_of c.args.network.now).rows c.loop-n.n c.args.first c.loop-n.at (length c.args.out.now) e c.loop-n-test.true c.loop-n.invariant.1 c.requires);
     }
 
-pub overflow-add-at : goal.overflow-add-at
-overflow-add-at c =
+pub overflow_add-at : goal.overflow_add-at
+overflow_add-at c =
     let e = c.rows-rows.ensures.value in
-    omega (arith, record-ends c.rows-rows.result.now (net_of c.args.network.now).rows c.loop-n.n c.args.first c.loop-n.at (length c.args.out.now) e c.loop-n-test.true c.loop-n.invariant.1 c.requires, c.record-len-at.ensures)
+    omega (arith, record-ends c.rows-rows.result.now (net_of c.args.network.now).rows c.loop-n.n c.args.first c.loop-n.at (length c.args.out.now) e c.loop-n-test.true c.loop-n.invariant.1 c.requires, c.record_len-at.ensures)
 
 -- the first records, and where the next starts
 front : (net : Net) (rs : List Row) (n first at : ℕ) → LegalNet net → rs ≡ net.rows → n ≤ length rs → at ≡ first + sizes (take n rs) → at ≡ first + length (flat_map record_bytes (take n rs))
@@ -46,8 +46,8 @@ loop-n-preserved c =
     let e = c.rows-rows.ensures.value in
     let place = front (net_of c.args.network.now) rs n c.args.first c.loop-n.at c.rows-rows.ensures.legal e (omega arith) c.loop-n.invariant.1 in
     let room = record-ends rs (net_of c.args.network.now).rows n c.args.first c.loop-n.at (length c.args.out.now) e l c.loop-n.invariant.1 c.requires in (
-      splice-more record_bytes rs n blank c.args.out.now c.loop-n.out c.put-record.new.out c.args.first c.loop-n.at l c.loop-n.invariant.0 place (omega (arith, room)) c.put-record.ensures,
-      omega (arith, c.loop-n.invariant.1, c.record-len-at.ensures, sizes-more rs n l),
+      splice-more record_bytes rs n blank c.args.out.now c.loop-n.out c.put_record.new.out c.args.first c.loop-n.at l c.loop-n.invariant.0 place (omega (arith, room)) c.put_record.ensures,
+      omega (arith, c.loop-n.invariant.1, c.record_len-at.ensures, sizes-more rs n l),
     )
 
 pub returns : goal.returns

@@ -12,7 +12,7 @@ pub loop-n-preserved : goal.loop-n-preserved
 loop-n-preserved c =
     let rs = c.rows-rows.result.now in
     let few : (get_or rs c.loop-n.n blank).count ≤ max_fanins = subst (λ v. (get_or v c.loop-n.n blank).count ≤ max_fanins) (sym c.rows-rows.ensures.value) (c.rows-rows.ensures.legal.row c.loop-n.n (omega (arith, ap length c.rows-rows.ensures.value))).few in
-    (omega (arith, c.loop-n.invariant.0, c.record-len-len.ensures, sizes-more rs c.loop-n.n c.loop-n-test.true), omega (arith, c.loop-n.invariant.1, c.record-len-len.ensures, record-most _ few))
+    (omega (arith, c.loop-n.invariant.0, c.record_len-len.ensures, sizes-more rs c.loop-n.n c.loop-n-test.true), omega (arith, c.loop-n.invariant.1, c.record_len-len.ensures, record-most _ few))
 
 pub returns : goal.returns
 returns c =

@@ -10,25 +10,25 @@ use Rattle.job.proofs.Encoded.{length-encode}
 use Rattle.job.proofs.Splices.{splice-four}
 use Rattle.job.proofs.store.store.Goals as goal
 
-pub put-counts-requires : goal.put-counts-requires
-put-counts-requires c = omega (arith, length-encode (net_of c.args.network.now) c.rows-nodes.ensures.legal, c.requires.within)
+pub put_counts-requires : goal.put_counts-requires
+put_counts-requires c = omega (arith, length-encode (net_of c.args.network.now) c.rows-nodes.ensures.legal, c.requires.within)
 
-pub put-pairs-requires : goal.put-pairs-requires
-put-pairs-requires c =
+pub put_pairs-requires : goal.put_pairs-requires
+put_pairs-requires c =
     let whole = length-encode (net_of c.args.network.now) c.rows-nodes.ensures.legal in
     let rows = ap length c.rows-nodes.ensures.value in
     let outputs = ap length c.outputs-outputs.ensures in
     record { within = omega (arith, c.requires.within); few = omega (arith, c.requires.fits) }
 
-pub put-signals-requires : goal.put-signals-requires
-put-signals-requires c =
+pub put_signals-requires : goal.put_signals-requires
+put_signals-requires c =
     let whole = length-encode (net_of c.args.network.now) c.rows-nodes.ensures.legal in
     let rows = ap length c.rows-nodes.ensures.value in
     let outputs = ap length c.outputs-outputs.ensures in
     omega (arith, c.requires.within)
 
-pub put-records-requires : goal.put-records-requires
-put-records-requires c =
+pub put_records-requires : goal.put_records-requires
+put_records-requires c =
     let whole = length-encode (net_of c.args.network.now) c.rows-nodes.ensures.legal in
     let rows = ap length c.rows-nodes.ensures.value in
     let outputs = ap length c.outputs-outputs.ensures in
@@ -53,5 +53,5 @@ whole net rs os i o p q r s er eo ei ep eq ers es long room =
 pub returns : goal.returns
 returns c =
     let net = net_of c.args.network.now in
-    whole net c.rows-nodes.result.now c.outputs-outputs.result.now c.inputs.result c.args.out.now c.put-counts.new.out c.put-pairs.new.out c.put-signals.new.out c.put-records.new.out
-    c.rows-nodes.ensures.value c.outputs-outputs.ensures c.inputs.ensures c.put-counts.ensures c.put-pairs.ensures c.put-signals.ensures c.put-records.ensures (length-encode net c.rows-nodes.ensures.legal) c.requires.within
+    whole net c.rows-nodes.result.now c.outputs-outputs.result.now c.inputs.result c.args.out.now c.put_counts.new.out c.put_pairs.new.out c.put_signals.new.out c.put_records.new.out
+    c.rows-nodes.ensures.value c.outputs-outputs.ensures c.inputs.ensures c.put_counts.ensures c.put_pairs.ensures c.put_signals.ensures c.put_records.ensures (length-encode net c.rows-nodes.ensures.legal) c.requires.within

@@ -12,8 +12,8 @@ use Rattle.logic.proofs.Fronts.{Front}
 use Rattle.logic.proofs.Depends.{eqb-add, behind, depends, depends-size, marks-none, marks-next, marks-more}
 use Rattle.logic.proofs.dependents.mark_dependents.Goals as goal
 
-pub reads-marked-requires : goal.reads-marked-requires
-reads-marked-requires c =
+pub reads_marked-requires : goal.reads_marked-requires
+reads_marked-requires c =
     let net : Net = net_of c.args.network.now in
     let n : ℕ = c.loop-n.n in
     let same : c.rows-rows.result.now ≡ net.rows = c.rows-rows.ensures.value in
@@ -37,16 +37,16 @@ loop-n-preserved c =
     let n : ℕ = c.loop-n.n in
     let vs = c.loop-n.marks in
     let es = c.unmark.new.marks in
-    let v : Bool = eqb n c.args.target || c.reads-marked.result in
+    let v : Bool = eqb n c.args.target || c.reads_marked.result in
     let low = lowers c.rows-rows.ensures.legal in
     let same : c.rows-rows.result.now ≡ net.rows = c.rows-rows.ensures.value in
     let place : c.inputs-inputs.result ≡ k = c.inputs-inputs.ensures in
     let lt : n < nodes net = omega (arith, ap length same) in
     let room : size net ≤ length vs = omega arith in
-    let any : c.reads-marked.result ≡ any_marked (row_at net n) (λ s. get_or vs s false) (row_at net n).count =
-    c.reads-marked.ensures ∙ ap (λ (rs : List Row). any_marked (get_or rs n blank) (λ s. get_or vs s false) (get_or rs n blank).count) same in
+    let any : c.reads_marked.result ≡ any_marked (row_at net n) (λ s. get_or vs s false) (row_at net n).count =
+    c.reads_marked.ensures ∙ ap (λ (rs : List Row). any_marked (get_or rs n blank) (λ s. get_or vs s false) (get_or rs n blank).count) same in
     let is : v ≡ depends t net low (k + n) =
-    ap (λ b. b || c.reads-marked.result) (eqb-add k n c.args.target) ∙ ap (λ b. eqb (k + n) t || b) any ∙ marks-next t net low vs es n lt c.loop-n.invariant in
+    ap (λ b. b || c.reads_marked.result) (eqb-add k n c.args.target) ∙ ap (λ b. eqb (k + n) t || b) any ∙ marks-next t net low vs es n lt c.loop-n.invariant in
     subst⁻¹ (λ (m : ℕ). Front (set vs (m + n) v) (k + (n + 1)) (dependents t net) es) place (marks-more t net low vs es n v lt room c.loop-n.invariant is)
 
 pub returns : goal.returns

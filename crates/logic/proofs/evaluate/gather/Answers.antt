@@ -5,7 +5,7 @@ use Rattle.network.specs.Rows.{no_signal}
 use Rattle.theory.specs.Values.{number}
 use Rattle.theory.proofs.Numbers.{number-below, pow-twice}
 use Rattle.logic.proofs.evaluate.gather.Goals as goal
-use Rattle.logic.proofs.evaluate.gather.Goals.{then-value-of, else-value-of}
+use Rattle.logic.proofs.evaluate.gather.Goals.{Then-value_of, Else-value_of}
 
 -- one bit more still fits a word
 fits : (x : ℕ → Bool) (j : ℕ) → j < 64 → number x j + (1 * 2 ^ j) % 2 ^ 64 < 2 ^ 64
@@ -19,8 +19,8 @@ more : (x : ℕ → Bool) (j n k : ℕ) (b : Bool) → x j ≡ b → n ≡ numbe
 unfolding number
 more x j n k b e p q = q ∙ ap (λ m. m + cond b (2 ^ j) 0) p ∙ ap (λ c. number x j + cond c (2 ^ j) 0) (sym e) ∙ ap (number x) (sym (add-one j))
 
-pub overflow-add-bits : goal.overflow-add-bits
-overflow-add-bits c =
+pub overflow_add-bits : goal.overflow_add-bits
+overflow_add-bits c =
     let x : ℕ → Bool = λ j. get_or c.args.values.now (get_or c.args.signals.now j no_signal).0 false in
     let j : ℕ = c.loop-j.j in
     let lt : j < 64 = omega arith in
@@ -37,12 +37,12 @@ loop-j-preserved c =
     let j : ℕ = c.loop-j.j in
     let n : ℕ = c.loop-j.bits in
     let lt : j < 64 = omega arith in
-    let b : Bool = c.value-of.result in
+    let b : Bool = c.value_of.result in
     let place : (get_or c.args.signals.now j no_signal).0 < length c.args.values.now = c.requires j (omega arith) in
-    let is : x j ≡ b = sym (c.value-of.ensures ∙ get_or_default c.args.values.now (get_or c.args.signals.now j no_signal).0 b false place) in
-    elim c.if-value-of.branch [
-      | then-value-of w ↦ more x j n c.if-value-of.bits true (is ∙ w.if-value-of.true) c.loop-j.invariant (w.bits-is ∙ ap (λ m. n + m) (one_shl j 64 lt))
-      | else-value-of w ↦ more x j n c.if-value-of.bits false (is ∙ w.if-value-of.false) c.loop-j.invariant (w.bits-is ∙ (let z : n ≡ n + 0 = omega arith in z))
+    let is : x j ≡ b = sym (c.value_of.ensures ∙ get_or_default c.args.values.now (get_or c.args.signals.now j no_signal).0 b false place) in
+    elim c.if-value_of.branch [
+      | Then-value_of w ↦ more x j n c.if-value_of.bits true (is ∙ w.if-value_of.true) c.loop-j.invariant (w.bits-is ∙ ap (λ m. n + m) (one_shl j 64 lt))
+      | Else-value_of w ↦ more x j n c.if-value_of.bits false (is ∙ w.if-value_of.false) c.loop-j.invariant (w.bits-is ∙ (let z : n ≡ n + 0 = omega arith in z))
     ]
 
 pub returns : goal.returns

@@ -26,13 +26,13 @@ returns c =
     let rows : ℕ → LaneRow = λ i l. bit_at (get_or ls i 0) l in
     let given : c.min-given.result ≡ min k (length ls) = c.min-given.ensures ∙ ap (λ m. min m (length ls)) c.inputs.ensures in
     let small : k ≤ max_signals = omega (arith, (legal-net c.args.network.now).few_inputs) in
-    let leaves : Admit word_admits c.put-front.new.values k rows =
-    λ i d h l b. ap (λ v. bit_at v l) (ap (λ (xs : List ℕ). get_or xs i d) c.put-front.ensures ∙ words-given ls k c.min-given.result max_signals i d given small h) in
+    let leaves : Admit word_admits c.put_front.new.values k rows =
+    λ i d h l b. ap (λ v. bit_at v l) (ap (λ (xs : List ℕ). get_or xs i d) c.put_front.ensures ∙ words-given ls k c.min-given.result max_signals i d given small h) in
     let values : (s d : ℕ) → s < size net → (l : ℕ) → l < word_bits → bit_at (get_or vs s d) l ≡ value None net (λ i. bit_at (get_or ls i 0) l) s = c.walk.ensures.admits rows leaves in
     record {
       values = λ l j b few room.
           let lt : j < n = omega (arith, ap length same) in
-          ap (λ v. bit_at v l) (ap (λ (ws : List ℕ). get_or ws j 0) c.put-words.ensures ∙ counted-at f n es j 0 lt ∙ ap (λ (qs : List Signal). get_or vs (get_or qs j no_signal).0 0) same) ∙
+          ap (λ v. bit_at v l) (ap (λ (ws : List ℕ). get_or ws j 0) c.put_words.ensures ∙ counted-at f n es j 0 lt ∙ ap (λ (qs : List Signal). get_or vs (get_or qs j no_signal).0 0) same) ∙
           values (output_at net j) 0 ((legal-net c.args.network.now).exit j few) l b;
-      rest = ap (drop (length net.outputs)) c.put-words.ensures ∙ put_rest f n (length net.outputs) es (let le : n ≤ length net.outputs = omega (arith, ap length same) in le);
+      rest = ap (drop (length net.outputs)) c.put_words.ensures ∙ put_rest f n (length net.outputs) es (let le : n ≤ length net.outputs = omega (arith, ap length same) in le);
     }

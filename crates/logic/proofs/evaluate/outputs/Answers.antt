@@ -17,10 +17,10 @@ returns c =
     let x : ℕ = c.args.x.0 in
     let n : ℕ = min (length net.outputs) word_bits in
     let rows : ℕ → LaneRow = λ i l. bit_at x i in
-    let leaves : Admit bit_admits c.put-bits.new.values net.inputs rows =
+    let leaves : Admit bit_admits c.put_bits.new.values net.inputs rows =
     λ i d h.
     let l : i < c.inputs.result = omega arith in
-    ap (λ (vs : List Bool). get_or vs i d) c.put-bits.ensures ∙ counted-at (bit_at x) c.inputs.result _ i d l in
+    ap (λ (vs : List Bool). get_or vs i d) c.put_bits.ensures ∙ counted-at (bit_at x) c.inputs.result _ i d l in
     let values : (s : ℕ) (d : Bool) → s < size net → get_or c.walk.new.values s d ≡ value None net (bit_at x) s = c.walk.ensures.admits rows leaves in
     let le : n ≤ length net.outputs = omega arith in
     let few : min (length c.outputs.result.now) word_bits ≡ n = ap (λ ss. min (length ss) word_bits) c.outputs.ensures in

@@ -19,9 +19,9 @@ loop-j-preserved c =
     let j : ℕ = c.loop-j.j in
     let lt : j < n = omega arith in
     let room : j < length c.loop-j.words = omega arith in
-    let v : ℕ = c.value-of.result in
+    let v : ℕ = c.value_of.result in
     let place : (get_or c.args.signals.now j no_signal).0 < length c.args.values.now = c.requires j (omega arith) in
-    let is : v ≡ f j = c.value-of.ensures ∙ get_or_default c.args.values.now (get_or c.args.signals.now j no_signal).0 v 0 place in
+    let is : v ≡ f j = c.value_of.ensures ∙ get_or_default c.args.values.now (get_or c.args.signals.now j no_signal).0 v 0 place in
     counted-more f n c.loop-j.words c.args.words.now j v lt room is c.loop-j.invariant
 
 pub returns : goal.returns

@@ -5,13 +5,13 @@ use Rattle.logic.specs.Folds.{Holds, folded_at}
 use Rattle.logic.proofs.Halves.{Half, half}
 use Rattle.logic.proofs.fold.node_value.Goals as goal
 
-pub put-pairs-requires : goal.put-pairs-requires
-put-pairs-requires g c =
+pub put_pairs-requires : goal.put_pairs-requires
+put_pairs-requires g c =
     let h : Half c.args.row.now.count = half c.args.row.now.count (omega arith) c.requires.few in
     record { few = omega (arith, h.whole, h.pairs); four = omega arith; room = omega (arith, h.whole, h.pairs) }
 
-pub fold-further-requires : goal.fold-further-requires
-fold-further-requires g c =
+pub fold_further-requires : goal.fold_further-requires
+fold_further-requires g c =
     let h : Half c.args.row.now.count = half c.args.row.now.count (omega arith) c.requires.few in
     record { some = omega arith; few = c.requires.few; lower = c.requires.lower; room = omega (arith, h.pairs) }
 
@@ -30,6 +30,6 @@ returns g c d =
     let low : fanin row 0 < length vs = c.requires.lower 0 some in
     let read : x ≡ get_or vs (fanin row 0) d = c.index-values-row.is ∙ get_or_default vs (fanin row 0) x d low in
     let at : Bool → Bool → V = λ h l. p x (of h) (of l) in
-    let first : Holds c.put-pairs.new.fold (2 ^ (n - 1)) (folded_at p of row (λ s. get_or vs s d) 1) =
-    λ i w b. c.put-pairs.ensures at c.put-picks.ensures i w (omega arith) ∙ ap (λ y. p y (of (bit_of f (2 * i + 1))) (of (bit_of f (2 * i)))) read in
-    c.fold-further.ensures d first
+    let first : Holds c.put_pairs.new.fold (2 ^ (n - 1)) (folded_at p of row (λ s. get_or vs s d) 1) =
+    λ i w b. c.put_pairs.ensures at c.put_picks.ensures i w (omega arith) ∙ ap (λ y. p y (of (bit_of f (2 * i + 1))) (of (bit_of f (2 * i)))) read in
+    c.fold_further.ensures d first

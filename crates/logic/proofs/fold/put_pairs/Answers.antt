@@ -7,11 +7,11 @@ pub loop-i-preserved : goal.loop-i-preserved
 loop-i-preserved g c at held =
     let f = c.args.function.now in
     let i : ℕ = c.loop-i.i in
-    let k : ℕ = c.bit-pair.result in
-    let pair = c.bit-pair.ensures in
-    let v = c.index-picks-bit-pair.result in
+    let k : ℕ = c.bit_pair.result in
+    let pair = c.bit_pair.ensures in
+    let v = c.index-picks-bit_pair.result in
     let value : v ≡ at (bit_of f (2 * i + 1)) (bit_of f (2 * i)) =
-    c.index-picks-bit-pair.is ∙ held k v pair.small ∙ ap (λ b. at b (bit_at k 0)) pair.high ∙ ap (at (bit_of f (2 * i + 1))) pair.low in
+    c.index-picks-bit_pair.is ∙ held k v pair.small ∙ ap (λ b. at b (bit_at k 0)) pair.high ∙ ap (at (bit_of f (2 * i + 1))) pair.low in
     put c.loop-i.fold i v (λ j. at (bit_of f (2 * j + 1)) (bit_of f (2 * j))) (omega arith) (c.loop-i.invariant at held) value
 
 pub returns : goal.returns

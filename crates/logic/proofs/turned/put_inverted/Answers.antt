@@ -14,4 +14,4 @@ returns g c d =
     let x = c.index-plain-at.result in
     let whole : at - 0 ≡ at = omega arith in
     let read : x ≡ get_or ps at d = c.index-plain-at.is ∙ get_or_default ps at x d c.requires.first in
-    ap (λ l. set l at c.inverse.result) (c.put-front.ensures ∙ ap (λ n. over (take n ps) es) whole) ∙ ap (set (over (take at ps) es) at) (c.inverse.ensures ∙ ap (inverse_of p of) read)
+    ap (λ l. set l at c.inverse.result) (c.put_front.ensures ∙ ap (λ n. over (take n ps) es) whole) ∙ ap (set (over (take at ps) es) at) (c.inverse.ensures ∙ ap (inverse_of p of) read)

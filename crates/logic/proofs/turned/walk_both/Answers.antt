@@ -9,8 +9,8 @@ use Rattle.logic.specs.Walks.{walked, over, signal_row}
 use Rattle.logic.proofs.Walks.{leaves-long, over-walked, over-sound, admit-front}
 use Rattle.logic.proofs.turned.walk_both.Goals as goal
 
-pub walk-turned-requires : goal.walk-turned-requires
-walk-turned-requires g c =
+pub walk_turned-requires : goal.walk_turned-requires
+walk_turned-requires g c =
     let p = g.L.Logic.picks in
     let of = g.L.Logic.constants in
     let net : Net = net_of c.args.network.now in
@@ -38,8 +38,8 @@ returns g c =
     let ps = c.args.plain.now in
     let es = c.args.turned.now in
     let leaves = take net.inputs ps in
-    let is : c.walk-turned.new.turned ≡ over (walked p of (Some t) net.rows leaves) es =
-    c.walk-turned.ensures ∙ ap (λ (l : List V). over (walked p of (Some t) net.rows l) es) c.walk.ensures.leaves in
+    let is : c.walk_turned.new.turned ≡ over (walked p of (Some t) net.rows leaves) es =
+    c.walk_turned.ensures ∙ ap (λ (l : List V). over (walked p of (Some t) net.rows l) es) c.walk.ensures.leaves in
     record {
       plain = c.walk.ensures.values;
       turned = is;

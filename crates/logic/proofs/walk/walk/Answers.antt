@@ -19,7 +19,7 @@ returns g c =
     let turn = turn_of c.args.turn in
     let es = c.args.values.now in
     let low = lowers (legal-net c.args.network.now) in
-    let is = c.walk-values.ensures in
+    let is = c.walk_values.ensures in
     let leaves : List V = take net.inputs es in
     let long = leaves-long net es c.requires.room in
     record {

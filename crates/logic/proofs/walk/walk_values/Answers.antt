@@ -12,8 +12,8 @@ use Rattle.logic.proofs.Fronts.{Front}
 use Rattle.logic.proofs.Walks as walks
 use Rattle.logic.proofs.walk.walk_values.Goals as goal
 
-pub node-value-v-requires : goal.node-value-v-requires
-node-value-v-requires g c =
+pub node_value-v-requires : goal.node_value-v-requires
+node_value-v-requires g c =
     let net : Net = net_of c.args.network.now in
     let n : ℕ = c.loop-n.n in
     let same : c.rows-rows.result.now ≡ net.rows = c.rows-rows.ensures.value in
@@ -46,10 +46,10 @@ loop-n-preserved g c =
     let place : c.inputs-inputs.result ≡ k = c.inputs-inputs.ensures in
     let lt : n < nodes net = omega (arith, ap length same) in
     let room : size net ≤ length vs = omega arith in
-    let made : c.node-value-v.result ≡ node_of p of (row_at net n) (λ s. get_or vs s (of false)) =
-    c.node-value-v.ensures (of false) ∙ ap (λ (rs : List Row). node_of p of (get_or rs n blank) (λ s. get_or vs s (of false))) same in
+    let made : c.node_value-v.result ≡ node_of p of (row_at net n) (λ s. get_or vs s (of false)) =
+    c.node_value-v.ensures (of false) ∙ ap (λ (rs : List Row). node_of p of (get_or rs n blank) (λ s. get_or vs s (of false))) same in
     let is : v ≡ walks.at p of turn net low leaves long (k + n) =
-    c.turned.ensures ∙ ap (λ m. turned_of p of (turns turn (m + n)) c.node-value-v.result) place ∙ ap (turned_of p of (turns turn (k + n))) made ∙
+    c.turned.ensures ∙ ap (λ m. turned_of p of (turns turn (m + n)) c.node_value-v.result) place ∙ ap (turned_of p of (turns turn (k + n))) made ∙
     walks.walk-next p of turn net low leaves long vs es n lt c.loop-n.invariant in
     subst⁻¹ (λ (m : ℕ). Front (set vs (m + n) v) (k + (n + 1)) (walked p of turn net.rows leaves) es) place
     (walks.walk_more p of turn net low leaves long vs es n v lt room c.loop-n.invariant is)

@@ -10,4 +10,4 @@ back bs (Ok j) h = writes-back bs j h.1
 back bs (Err e) h = tt
 
 pub returns : goal.returns
-returns c = record { reads = c.read-file.ensures; back = back c.args.bytes.now c.read-file.result c.read-file.ensures }
+returns c = record { reads = c.read_file.ensures; back = back c.args.bytes.now c.read_file.result c.read_file.ensures }

@@ -17,4 +17,4 @@ pub returns-in-Some : goal.returns-in-Some
 returns-in-Some c =
     let s = c.args.self.now in
     let got = c.in-Some.ensures in
-    known c.from-row.result _ c.in-Some.row (row_at (net_of s) c.args.n) _ got.1 (legal-of (s.legal c.args.n got.0)) c.from-row.ensures
+    known c.from_row.result _ c.in-Some.row (row_at (net_of s) c.args.n) _ got.1 (legal-of (s.legal c.args.n got.0)) c.from_row.ensures

@@ -3,7 +3,7 @@ use Rattle.std.proofs.lemmas.Bool.{ltb-true}
 use Rattle.network.proofs.Rows.{below-pushed}
 use Rattle.network.proofs.network.Network.push_output.Goals as goal
 
-pub invariant-of-self : goal.invariant-of-self
-invariant-of-self c =
+pub invariant_of-self : goal.invariant_of-self
+invariant_of-self c =
     let s = c.args.self.now in
-    (s.small, (s.few, (s.legal, (below-pushed (s.inputs + length (vec_items s.table.rows)) _ _ c.args.signal _ c.push.ensures.items (ltb-true _ _ (sym c.is-signal.ensures ∙ c.if-not-is-signal.false)) s.exits, tt))))
+    record { small = s.small; few = s.few; legal = s.legal; exits = below-pushed (s.inputs + length (vec_items s.table.rows)) _ _ c.args.signal _ c.push.ensures.items (ltb-true _ _ (sym c.is_signal.ensures ∙ c.if-not-is_signal.false)) s.exits }
