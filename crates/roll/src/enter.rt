@@ -21,8 +21,8 @@ fn insert_at<T: Copy>(places: &mut [T], count: usize, at: usize, item: T)
 
 /// Adds the item to the `count` entries that stand first in `places`.
 pub fn enter<T: Ranked>(places: &mut [T], count: usize, item: T) -> Added
-    requires { IsRoll below count places.old }
-    ensures { Adds below item count places.old result places.new }
+    requires { IsRoll T.below count places.old }
+    ensures { Adds T.below item count places.old result places.new }
 {
     match seek(&places[0..count], &item) {
         Ok(_) => Added::Present,

@@ -20,7 +20,7 @@ impl<'a, T: Ranked> Roll<'a, T> {
     pub fn over(places: &'a mut [T]) -> Self
         ensures count { result.count ≡ 0 }
         ensures places { result.places ≡ places.entry }
-        ensures roll { IsRoll below result.count result.places.now }
+        ensures roll { IsRoll T.below result.count result.places.now }
     {
         Roll { places, count: 0 }
     }
@@ -34,7 +34,7 @@ impl<'a, T: Ranked> Roll<'a, T> {
 
     /// The entries, ascending.
     pub fn entries(&self) -> &[T]
-        requires { IsRoll below self.now.count self.now.places.now }
+        requires { IsRoll T.below self.now.count self.now.places.now }
         ensures { result.now ≡ take self.now.count self.now.places.now }
     {
         &self.places[0..self.count]
@@ -42,10 +42,10 @@ impl<'a, T: Ranked> Roll<'a, T> {
 
     /// Adds an entry.
     pub fn add(&mut self, item: T) -> Added
-        requires { IsRoll below self.old.count self.old.places.now }
-        ensures adds { Adds below item self.old.count self.old.places.now result self.new.places.now }
+        requires { IsRoll T.below self.old.count self.old.places.now }
+        ensures adds { Adds T.below item self.old.count self.old.places.now result self.new.places.now }
         ensures count { self.new.count ≡ self.old.count + grown result }
-        ensures roll { IsRoll below self.new.count self.new.places.now }
+        ensures roll { IsRoll T.below self.new.count self.new.places.now }
         ensures distinct { Distinct (take self.new.count self.new.places.now) }
         ensures lender { self.new.places.ghost_name ≡ self.old.places.ghost_name }
     {

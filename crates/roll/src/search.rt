@@ -7,8 +7,8 @@ use crate::order::Ranked;
 
 /// How many entries at the front are below the item, by halving.
 fn place_of<T: Ranked>(entries: &[T], item: &T) -> usize
-    requires { ascending below entries.now ≡ true }
-    ensures { result ≡ place below item.now entries.now }
+    requires { ascending T.below entries.now ≡ true }
+    ensures { result ≡ place T.below item.now entries.now }
 {
     let mut low = 0;
     let mut high = entries.len();
@@ -25,8 +25,8 @@ fn place_of<T: Ranked>(entries: &[T], item: &T) -> usize
 
 /// Where the item stands among the entries (Ok), or where it would go (Err).
 pub fn seek<T: Ranked>(entries: &[T], item: &T) -> Result<usize, usize>
-    requires { ascending below entries.now ≡ true }
-    ensures { MatchResult result (Stands item.now entries.now) (Goes below item.now entries.now) }
+    requires { ascending T.below entries.now ≡ true }
+    ensures { MatchResult result (Stands item.now entries.now) (Goes T.below item.now entries.now) }
 {
     let at = place_of(entries, item);
     if at >= entries.len() {

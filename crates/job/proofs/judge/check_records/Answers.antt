@@ -13,9 +13,9 @@ pub returns-in_err-check_record : goal.returns-in_err-check_record
 returns-in_err-check_record c = let p = err_from_is_err_and c.from_residual.result c.from_residual.ensures.1 in
     let bs = c.args.bytes.now in
     let l : c.loop-n.n < nodes_of c.args.bytes.now = omega arith in
-    rw (p.1, p.2) (sym (upto-stop (node_checks bs) c.loop-n.n (nodes_of bs) _ l c.loop-n.invariant (sym (c.in-err-check-record.ensures ∙ same-record bs c.loop-n.n _ _ c.word-offset.ensures c.word-size.ensures))))
+    rw (p.1, p.2) (sym (upto-stop (node_checks bs) c.loop-n.n (nodes_of bs) _ l c.loop-n.invariant (sym (c.in_err-check_record.ensures ∙ same-record bs c.loop-n.n _ _ c.word-offset.ensures c.word-size.ensures))))
 
 pub loop-n-preserved : goal.loop-n-preserved
 loop-n-preserved c =
     let bs = c.args.bytes.now in
-    upto-more (node_checks bs) c.loop-n.n c.loop-n.invariant (sym (c.in-ok-check-record.ensures ∙ same-record bs c.loop-n.n _ _ c.word-offset.ensures c.word-size.ensures))
+    upto-more (node_checks bs) c.loop-n.n c.loop-n.invariant (sym (c.in_ok-check_record.ensures ∙ same-record bs c.loop-n.n _ _ c.word-offset.ensures c.word-size.ensures))

@@ -7,5 +7,5 @@ use Rattle.job.proofs.load.load.Goals as goal
 pub returns : goal.returns
 returns c =
     let bs = c.args.bytes.now in
-    let k = c.in-ok-load-outputs.ensures in
-    record { same = all-loaded bs _ (λ i. omega (arith, c.type-inv.bytes i)) (passed bs c.requires) k; outputs = k.outputs }
+    let k = c.in_ok-load_outputs.ensures in
+    record { same = all-loaded bs _ (λ i. omega (arith, c.type_inv.bytes i)) (passed bs c.requires) k; outputs = k.outputs }

@@ -20,4 +20,4 @@ loop-j-preserved c =
     let bs = c.args.bytes.now in
     let l : c.loop-j.j < outputs_of bs = omega arith in
     let e : 4 + 4 * c.word.result + 2 * c.loop-j.j ≡ output_place bs c.loop-j.j = omega arith in
-    outputs-more bs c.loop-j.j (net_of c.loop-j.network) (net_of c.push_signal.new.network) (record { 0 = c.word-in-loop-j.result }) (λ i. omega (arith, c.type-inv.bytes i)) (passed bs c.requires.passed) l c.loop-j.invariant (c.word-in-loop-j.ensures ∙ ap (word_at bs) e) c.in-ok-push-signal.ensures
+    outputs-more bs c.loop-j.j (net_of c.loop-j.network) (net_of c.push_signal.new.network) (record { 0 = c.word-in-loop-j.result }) (λ i. omega (arith, c.type_inv.bytes i)) (passed bs c.requires.passed) l c.loop-j.invariant (c.word-in-loop-j.ensures ∙ ap (word_at bs) e) c.in_ok-push_signal.ensures

@@ -37,7 +37,7 @@ loop-n-preserved c =
     let bs = c.args.bytes.now in
     let l : c.loop-n.n < nodes_of bs = omega arith in
     let row : RowLoaded bs (offset_of bs c.loop-n.n) c.load_row.result = subst (λ a. RowLoaded bs a c.load_row.result) c.word-at.ensures c.load_row.ensures in
-    rows_more bs c.loop-n.n (net_of c.loop-n.network) (net_of c.push_legal.new.network) c.load_row.result (λ i. omega (arith, c.type-inv.bytes i)) (passed bs c.requires.passed) l c.loop-n.invariant row c.in-ok-push-legal.ensures
+    rows_more bs c.loop-n.n (net_of c.loop-n.network) (net_of c.push_legal.new.network) c.load_row.result (λ i. omega (arith, c.type_inv.bytes i)) (passed bs c.requires.passed) l c.loop-n.invariant row c.in_ok-push_legal.ensures
 
 pub returns : goal.returns
 returns c =

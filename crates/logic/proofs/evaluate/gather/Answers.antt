@@ -5,7 +5,7 @@ use Rattle.network.specs.Rows.{no_signal}
 use Rattle.theory.specs.Values.{number}
 use Rattle.theory.proofs.Numbers.{number-below, pow-twice}
 use Rattle.logic.proofs.evaluate.gather.Goals as goal
-use Rattle.logic.proofs.evaluate.gather.Goals.{Then-value_of, Else-value_of}
+use Rattle.logic.proofs.evaluate.gather.Goals.{then-value_of, else-value_of}
 
 -- one bit more still fits a word
 fits : (x : ℕ → Bool) (j : ℕ) → j < 64 → number x j + (1 * 2 ^ j) % 2 ^ 64 < 2 ^ 64
@@ -41,8 +41,8 @@ loop-j-preserved c =
     let place : (get_or c.args.signals.now j no_signal).0 < length c.args.values.now = c.requires j (omega arith) in
     let is : x j ≡ b = sym (c.value_of.ensures ∙ get_or_default c.args.values.now (get_or c.args.signals.now j no_signal).0 b false place) in
     elim c.if-value_of.branch [
-      | Then-value_of w ↦ more x j n c.if-value_of.bits true (is ∙ w.if-value_of.true) c.loop-j.invariant (w.bits-is ∙ ap (λ m. n + m) (one_shl j 64 lt))
-      | Else-value_of w ↦ more x j n c.if-value_of.bits false (is ∙ w.if-value_of.false) c.loop-j.invariant (w.bits-is ∙ (let z : n ≡ n + 0 = omega arith in z))
+      | then-value_of w ↦ more x j n c.if-value_of.bits true (is ∙ w.if-value_of.true) c.loop-j.invariant (w.bits-is ∙ ap (λ m. n + m) (one_shl j 64 lt))
+      | else-value_of w ↦ more x j n c.if-value_of.bits false (is ∙ w.if-value_of.false) c.loop-j.invariant (w.bits-is ∙ (let z : n ≡ n + 0 = omega arith in z))
     ]
 
 pub returns : goal.returns

@@ -13,6 +13,6 @@ over n o w x rest e lo lx =
 
 pub returns : goal.returns
 returns c =
-    let v = c.in-ok-bytes.bytes in
-    let made = c.in-ok-bytes.ensures in
+    let v = c.in_ok-bytes.bytes in
+    let made = c.in_ok-bytes.ensures in
     over v.len c.deref_mut.result.now c.store.new.out (encode (job_net c.args.self.now)) _ c.store.ensures c.deref_mut.ensures.len (sym c.file_len.ensures.value ∙ sym made.len)
