@@ -1,6 +1,7 @@
 //! Walks a job many times, and prints a checksum of its outputs: a program to measure. The arguments
 //! are `words` or `ternary` and the number of walks; the job comes on standard input.
 #![tactic(auto)]
+
 use anyhow::anyhow;
 use job::job::{Job, MAX_OUTPUTS};
 use logic::evaluate::output_words;

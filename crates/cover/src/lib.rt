@@ -1,5 +1,6 @@
 //! Covers of a node: cubes, expansion, irredundancy.
 #![tactic(auto)]
+
 mod care;
 pub mod cover;
 pub mod cube;

@@ -1,12 +1,15 @@
 //! Reads a job on standard input, and writes it on standard output.
 #![tactic(auto)]
+
 use job::denial::{ReadError, Refusal};
 use job::job::Job;
 use std::alloc::AllocError;
 use std::io::{Read, Write};
+use std::process::ExitCode;
 use std::{fmt, io};
 
 /// Why no job was written.
+#[derive(Drop)]
 enum Failure {
     Refused(Refusal),
     NoMemory,
@@ -66,12 +69,12 @@ fn run(rt: &HostRuntime) -> Result<(), Failure> {
     Ok(())
 }
 
-fn main(rt: HostRuntime) -> Result<(), Failure> {
+fn main(rt: HostRuntime) -> ExitCode {
     match run(&rt) {
-        Ok(()) => Ok(()),
+        Ok(()) => ExitCode::SUCCESS,
         Err(failure) => {
             let _ = eprintln!(rt; "{failure}");
-            Err(failure)
+            ExitCode::FAILURE
         }
     }
 }

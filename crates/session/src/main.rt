@@ -1,5 +1,6 @@
 //! Reads a script of calls on standard input, one call a line, and answers one line each.
 #![tactic(auto)]
+
 mod boards;
 mod script;
 mod text;

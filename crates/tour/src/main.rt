@@ -1,5 +1,6 @@
 //! Does one job from start to end, and prints each thing that it did.
 #![tactic(auto)]
+
 use anyhow::anyhow;
 use job::denial::ReadError;
 use job::job::Job;

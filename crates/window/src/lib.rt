@@ -1,5 +1,6 @@
 //! Contexts: what an examination of a node looks at, extracted as a network of its own.
 #![tactic(auto)]
+
 pub mod context;
 mod extract;
 mod leaves;

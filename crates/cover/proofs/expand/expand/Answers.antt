@@ -11,7 +11,7 @@ use Rattle.cover.proofs.expand.expand.Goals.{then-not-meets, else-not-meets}
 pub loop-i-preserved : goal.loop-i-preserved
 loop-i-preserved c =
     let off = members c.args.off.now in
-    let whole = expanded off (range_with_len 0 c.count-i-end.result) c.of-minterm-cube.result in
+    let whole = expanded off (range_with_len 0 c.count-i-end.result) c.of_minterm-cube.result in
     let t : c.meets.result ≡ touches off c.strike-larger.result = meets-touches c.args.off.now c.strike-larger.result c.meets.result c.meets.ensures in
     elim c.if-not-meets.branch [
       | then-not-meets w ↦ expand-gone off c.loop-i.i c.count-i-end.result c.loop-i.cube c.strike-larger.result c.if-not-meets.cube whole c.loop-i-test.true c.loop-i.invariant c.strike-larger.ensures (sym t ∙ w.if-not-meets.true) w.cube-is
@@ -21,5 +21,5 @@ loop-i-preserved c =
 pub returns : goal.returns
 returns c =
     let off = members c.args.off.now in
-    expand-all off c.loop-i.i c.count-i-end.result c.loop-i.cube (expanded off (range_with_len 0 c.count-i-end.result) c.of-minterm-cube.result) c.loop-i-test.false c.loop-i.invariant
-    ∙ ap₂ (λ n d. expanded off (range_with_len 0 n) d) c.count-i-end.ensures c.of-minterm-cube.ensures
+    expand-all off c.loop-i.i c.count-i-end.result c.loop-i.cube (expanded off (range_with_len 0 c.count-i-end.result) c.of_minterm-cube.result) c.loop-i-test.false c.loop-i.invariant
+    ∙ ap₂ (λ n d. expanded off (range_with_len 0 n) d) c.count-i-end.ensures c.of_minterm-cube.ensures

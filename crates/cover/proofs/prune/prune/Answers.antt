@@ -21,11 +21,11 @@ loop-i-preserved c =
     let stays = c.loop-i.stays in
     let i = c.loop-i.i in
     let cube = get_or cubes i no_cube in
-    let later = get_or c.fill-later.new.later i no_table in
+    let later = get_or c.fill_later.new.later i no_table in
     let l : i < count = c.loop-i-test.true in
     let m : count ≤ length first = c.requires.fits in
     let behind : IsSet later (in_cover (drop (i + 1) (take count first))) =
-    subst (λ n. i < length (take n first) → IsSet later (in_cover (drop (i + 1) (take n first)))) (sub-zero count) (c.fill-later.ensures i) (omega (arith, length-take-le count first m)) in
+    subst (λ n. i < length (take n first) → IsSet later (in_cover (drop (i + 1) (take n first)))) (sub-zero count) (c.fill_later.ensures i) (omega (arith, length-take-le count first m)) in
     let spares : spare (members on) cube (take stays cubes ++ drop (i + 1) (take count first)) ≡ not c.meets.result =
     spare-by-table on c.loop-i.left later c.without-lone.result cube (take stays cubes) (drop (i + 1) (take count first)) c.meets.result c.loop-i.invariant.bare behind c.without-lone.ensures c.meets.ensures in
     elim c.if-meets.branch [

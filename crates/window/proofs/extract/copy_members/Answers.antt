@@ -13,22 +13,22 @@ use Rattle.window.specs.Numbers.{new_at}
 use Rattle.window.specs.Parts.{rows_to}
 use Rattle.window.proofs.Copies.{rows_none, rows_more, rows_same, row_room, row-legal, row_same}
 use Rattle.window.proofs.extract.copy_members.Goals as goal
-use Rattle.window.proofs.extract.copy_members.Goals.{then-has+in-ok-append-row, else-has}
+use Rattle.window.proofs.extract.copy_members.Goals.{then-has+in_ok-append_row, else-has}
 
 pub loop-n-init : goal.loop-n-init
 loop-n-init c = c.requires.start ∙ rows_none (net_of c.args.network.now) (has c.args.members.now) c.requires.ready.1.members.above
 
-pub append-row-requires : goal.append-row-requires
-append-row-requires c =
+pub append_row-requires : goal.append_row-requires
+append_row-requires c =
     let net = net_of c.args.network.now in
     let m : ℕ → Bool = has c.args.members.now in
     let n : ℕ = c.loop-n.n in
     let t : ℕ = c.requires.ready.0 in
     let legal = legal-net c.args.network.now in
-    let l : n < nodes net = omega (arith, c.node-count-n-end.ensures.value) in
-    let y : m (net.inputs + n) ≡ true = ap m (sym c.node-signal.ensures.value) ∙ sym c.has.ensures ∙ c.if-has.true in
+    let l : n < nodes net = omega (arith, c.node_count-n-end.ensures.value) in
+    let y : m (net.inputs + n) ≡ true = ap m (sym c.node_signal.ensures.value) ∙ sym c.has.ensures ∙ c.if-has.true in
     let r : c.row.result ≡ renumber (new_of net m) (row_at net n) =
-    c.row.ensures ∙ ap (λ (r : Row). renumber (new_at c.args.numbers.now) r) c.node-row.ensures.value ∙ row_same net m t legal c.requires.ready.1 (new_at c.args.numbers.now) c.requires.numbers n l y in
+    c.row.ensures ∙ ap (λ (r : Row). renumber (new_at c.args.numbers.now) r) c.node_row.ensures.value ∙ row_same net m t legal c.requires.ready.1 (new_at c.args.numbers.now) c.requires.numbers n l y in
     record {
       room = subst⁻¹ (λ (w : Net). nodes w < max_nodes) c.loop-n.invariant (row_room net m t legal c.requires.ready.1 n l y);
       legal = subst⁻¹ (λ (w : Net). Legal (size w) c.row.result) c.loop-n.invariant (subst⁻¹ (Legal (size (rows_to net m (net.inputs + n)))) r (row-legal net m t legal c.requires.ready.1 n l y));
@@ -41,13 +41,13 @@ loop-n-preserved c =
     let n : ℕ = c.loop-n.n in
     let t : ℕ = c.requires.ready.0 in
     let legal = legal-net c.args.network.now in
-    let l : n < nodes net = omega (arith, c.node-count-n-end.ensures.value) in
-    let here : m (net.inputs + n) ≡ c.has.result = ap m (sym c.node-signal.ensures.value) ∙ sym c.has.ensures in
+    let l : n < nodes net = omega (arith, c.node_count-n-end.ensures.value) in
+    let here : m (net.inputs + n) ≡ c.has.result = ap m (sym c.node_signal.ensures.value) ∙ sym c.has.ensures in
     elim c.if-has.branch [
-      | then-has+in-ok-append-row w ↦
+      | then-has+in_ok-append_row w ↦
           let y : m (net.inputs + n) ≡ true = here ∙ w.if-has.true in
           let r : w.row.result ≡ renumber (new_of net m) (row_at net n) =
-          w.row.ensures ∙ ap (λ (r : Row). renumber (new_at c.args.numbers.now) r) w.node-row.ensures.value ∙ row_same net m t legal c.requires.ready.1 (new_at c.args.numbers.now) c.requires.numbers n l y in
-          ap net_of w.out-is ∙ w.in-ok-append-row.ensures ∙ ap (λ (v : Net). with_row v w.row.result) c.loop-n.invariant ∙ ap (with_row (rows_to net m (net.inputs + n))) r ∙ rows_more net m n y
+          w.row.ensures ∙ ap (λ (r : Row). renumber (new_at c.args.numbers.now) r) w.node_row.ensures.value ∙ row_same net m t legal c.requires.ready.1 (new_at c.args.numbers.now) c.requires.numbers n l y in
+          ap net_of w.out-is ∙ w.in_ok-append_row.ensures ∙ ap (λ (v : Net). with_row v w.row.result) c.loop-n.invariant ∙ ap (with_row (rows_to net m (net.inputs + n))) r ∙ rows_more net m n y
       | else-has w ↦ ap net_of w.out-is ∙ c.loop-n.invariant ∙ rows_same net m n (here ∙ w.if-has.false)
     ]

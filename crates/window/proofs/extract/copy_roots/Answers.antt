@@ -11,13 +11,13 @@ use Rattle.window.specs.Numbers.{new_at}
 use Rattle.window.specs.Parts.{roots_to}
 use Rattle.window.proofs.Copies.{roots-none, roots-more, roots-same, roots-all, root-new, root-small}
 use Rattle.window.proofs.extract.copy_roots.Goals as goal
-use Rattle.window.proofs.extract.copy_roots.Goals.{then-has+in-ok-append-output, else-has}
+use Rattle.window.proofs.extract.copy_roots.Goals.{then-has+in_ok-append_output, else-has}
 
 pub loop-s-init : goal.loop-s-init
 loop-s-init c = c.requires.rows ∙ roots-none (net_of c.args.network.now) (has c.args.members.now) c.args.node (legal-net c.args.network.now) c.requires.ready
 
-pub append-output-requires : goal.append-output-requires
-append-output-requires c =
+pub append_output-requires : goal.append_output-requires
+append_output-requires c =
     let net = net_of c.args.network.now in
     let m : ℕ → Bool = has c.args.members.now in
     let s : ℕ = c.loop-s.s in
@@ -40,10 +40,10 @@ loop-s-preserved c =
     let l : s < size net = omega (arith, c.signals-s-end.ensures) in
     let here : is_root net m (net.inputs + t) s ≡ c.has.result = sym (c.roots-roots.ensures s l) ∙ sym c.has.ensures in
     elim c.if-has.branch [
-      | then-has+in-ok-append-output w ↦
+      | then-has+in_ok-append_output w ↦
           let y : is_root net m (net.inputs + t) s ≡ true = here ∙ w.if-has.true in
           let n = root-new net m t legal c.requires.ready (new_at c.args.numbers.now) c.requires.numbers s l y in
-          ap net_of w.out-is ∙ w.in-ok-append-output.ensures ∙ ap (λ (v : Net). with_output v w.of.result) c.loop-s.invariant
+          ap net_of w.out-is ∙ w.in_ok-append_output.ensures ∙ ap (λ (v : Net). with_output v w.of.result) c.loop-s.invariant
           ∙ ap (with_output (roots_to net m t s)) (w.of.ensures ∙ ap signal_of n) ∙ roots-more net m t legal c.requires.ready s y
       | else-has w ↦ ap net_of w.out-is ∙ c.loop-s.invariant ∙ roots-same net m t legal c.requires.ready s (here ∙ w.if-has.false)
     ]

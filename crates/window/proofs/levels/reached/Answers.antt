@@ -10,9 +10,9 @@ loop-edge-init c = outof-none (net_of c.args.network.now) (has c.args.set)
 
 pub loop-edge-preserved : goal.loop-edge-preserved
 loop-edge-preserved c = λ s.
-    c.widen-out.ensures s ∙ outof-more (net_of c.args.network.now) (has c.args.set) c.loop-edge.-edge (has c.loop-edge.all) c.loop-edge.invariant s
+    c.widen_out.ensures s ∙ outof-more (net_of c.args.network.now) (has c.args.set) c.loop-edge._edge (has c.loop-edge.all) c.loop-edge.invariant s
 
 pub returns : goal.returns
 returns c = λ s.
-    let e : c.loop-edge.-edge ≡ c.args.edges = omega arith in
+    let e : c.loop-edge._edge ≡ c.args.edges = omega arith in
     c.loop-edge.invariant s ∙ ap (λ d. outof (net_of c.args.network.now) (has c.args.set) d s) e

@@ -5,4 +5,4 @@ use Rattle.window.specs.Sets.{has}
 use Rattle.window.proofs.levels.reached.Given as goal
 
 abbrev pub invariant-loop-edge : goal.invariant-loop-edge
-invariant-loop-edge l = (s : ℕ) → has l.all s ≡ outof (net_of l.network) (has l.initial.all) l.-edge s
+invariant-loop-edge l = (s : ℕ) → has l.all s ≡ outof (net_of l.network) (has l.initial.all) l._edge s

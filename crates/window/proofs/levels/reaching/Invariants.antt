@@ -5,4 +5,4 @@ use Rattle.window.specs.Sets.{has}
 use Rattle.window.proofs.levels.reaching.Given as goal
 
 abbrev pub invariant-loop-edge : goal.invariant-loop-edge
-invariant-loop-edge l = (s : ℕ) → has l.all s ≡ into (net_of l.network) (has l.initial.all) l.-edge s
+invariant-loop-edge l = (s : ℕ) → has l.all s ≡ into (net_of l.network) (has l.initial.all) l._edge s

@@ -21,10 +21,10 @@ loop-n-preserved c = λ s.
     let q : Bool = is_fanin (row_at net n) s in
     let v : Bool = has c.loop-n.marks s in
     let e : Bool = has c.args.marks.now s in
-    let here : has c.args.from.now (net.inputs + n) ≡ c.has.result = ap (has c.args.from.now) (sym c.node-signal.ensures.value) ∙ sym c.has.ensures in
+    let here : has c.args.from.now (net.inputs + n) ≡ c.has.result = ap (has c.args.from.now) (sym c.node_signal.ensures.value) ∙ sym c.has.ensures in
     elim c.if-has.branch [
       | then-has w ↦
-          ap (λ (xs : SignalSet). has xs s) w.marks-is ∙ w.insert-fanins.ensures s ∙ ap (λ r. v || is_fanin r s) w.node-row.ensures.value
+          ap (λ (xs : SignalSet). has xs s) w.marks-is ∙ w.insert_fanins.ensures s ∙ ap (λ r. v || is_fanin r s) w.node_row.ensures.value
           ∙ mark-next v e q n p (c.loop-n.invariant s) (ap (λ b. b && q) (here ∙ w.if-has.true))
       | else-has w ↦
           ap (λ (xs : SignalSet). has xs s) w.marks-is ∙ mark-skip v e n p (c.loop-n.invariant s) (ap (λ b. b && q) (here ∙ w.if-has.false))
@@ -33,5 +33,5 @@ loop-n-preserved c = λ s.
 pub returns : goal.returns
 returns c = λ s.
     let net = net_of c.args.network.now in
-    let e : c.loop-n.n ≡ nodes net = omega (arith, c.node-count-n-end.ensures.value) in
+    let e : c.loop-n.n ≡ nodes net = omega (arith, c.node_count-n-end.ensures.value) in
     c.loop-n.invariant s ∙ ap (λ n. has c.args.marks.now s || feeds net (has c.args.from.now) n s) e

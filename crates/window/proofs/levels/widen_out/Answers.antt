@@ -8,7 +8,7 @@ use Rattle.window.specs.Sets.{has, fed}
 use Rattle.window.specs.declared.set.SignalSet.{SignalSet}
 use Rattle.window.proofs.Marks.{any-zero, mark-next, mark-skip, and_yes, and_no}
 use Rattle.window.proofs.levels.widen_out.Goals as goal
-use Rattle.window.proofs.levels.widen_out.Goals.{then-has-fanin, else-has-fanin}
+use Rattle.window.proofs.levels.widen_out.Goals.{then-has_fanin, else-has_fanin}
 
 pub loop-n-init : goal.loop-n-init
 loop-n-init c = λ s.
@@ -24,17 +24,17 @@ loop-n-preserved c = λ s.
     let p : ℕ → Bool = λ j. eqb (net.inputs + j) s && a j in
     let v : Bool = has c.loop-n.marks s in
     let e : Bool = has c.args.marks.now s in
-    let here : a n ≡ c.has-fanin.result = sym (c.has-fanin.ensures ∙ ap (λ (r : Row). any_below r.count (λ i. f (fanin r i))) c.node-row.ensures.value) in
-    elim c.if-has-fanin.branch [
-      | then-has-fanin w ↦
-          ap (λ (xs : SignalSet). has xs s) w.marks-is ∙ w.insert.ensures s ∙ ap (λ k. v || eqb k s) w.node-signal.ensures.value
-          ∙ mark-next v e (eqb (net.inputs + n) s) n p (c.loop-n.invariant s) (and_yes (eqb (net.inputs + n) s) (a n) (here ∙ w.if-has-fanin.true))
-      | else-has-fanin w ↦
-          ap (λ (xs : SignalSet). has xs s) w.marks-is ∙ mark-skip v e n p (c.loop-n.invariant s) (and_no (eqb (net.inputs + n) s) (a n) (here ∙ w.if-has-fanin.false))
+    let here : a n ≡ c.has_fanin.result = sym (c.has_fanin.ensures ∙ ap (λ (r : Row). any_below r.count (λ i. f (fanin r i))) c.node_row.ensures.value) in
+    elim c.if-has_fanin.branch [
+      | then-has_fanin w ↦
+          ap (λ (xs : SignalSet). has xs s) w.marks-is ∙ w.insert.ensures s ∙ ap (λ k. v || eqb k s) w.node_signal.ensures.value
+          ∙ mark-next v e (eqb (net.inputs + n) s) n p (c.loop-n.invariant s) (and_yes (eqb (net.inputs + n) s) (a n) (here ∙ w.if-has_fanin.true))
+      | else-has_fanin w ↦
+          ap (λ (xs : SignalSet). has xs s) w.marks-is ∙ mark-skip v e n p (c.loop-n.invariant s) (and_no (eqb (net.inputs + n) s) (a n) (here ∙ w.if-has_fanin.false))
     ]
 
 pub returns : goal.returns
 returns c = λ s.
     let net = net_of c.args.network.now in
-    let e : c.loop-n.n ≡ nodes net = omega (arith, c.node-count-n-end.ensures.value) in
+    let e : c.loop-n.n ≡ nodes net = omega (arith, c.node_count-n-end.ensures.value) in
     c.loop-n.invariant s ∙ ap (λ n. has c.args.marks.now s || fed net (has c.args.from.now) n s) e

@@ -15,11 +15,11 @@ loop-n-preserved c = λ s.
     let net = net_of c.args.network.now in
     let n : ℕ = c.loop-n.n in
     let v : Bool = has c.loop-n.all s in
-    c.insert.ensures s ∙ ap (λ k. v || eqb k s) c.node-signal.ensures.value
+    c.insert.ensures s ∙ ap (λ k. v || eqb k s) c.node_signal.ensures.value
     ∙ mark-next v false (eqb (net.inputs + n) s) n (λ j. eqb (net.inputs + j) s) (c.loop-n.invariant s) refl
 
 pub returns : goal.returns
 returns c = λ s.
     let net = net_of c.args.network.now in
-    let e : c.loop-n.n ≡ nodes net = omega (arith, c.node-count-n-end.ensures.value) in
+    let e : c.loop-n.n ≡ nodes net = omega (arith, c.node_count-n-end.ensures.value) in
     c.loop-n.invariant s ∙ ap (λ n. any_below n (λ j. eqb (net.inputs + j) s)) e ∙ whole-any net s

@@ -21,7 +21,7 @@ loop-n-preserved c = λ s.
     let v : Bool = has c.loop-n.common s in
     let ab : ℕ → Bool = λ k. has c.args.a.now k && has c.args.b.now k in
     let p : ℕ → Bool = λ j. eqb (net.inputs + j) s && ab (net.inputs + j) in
-    let k : c.node-signal-signal.result.0 ≡ net.inputs + n = c.node-signal-signal.ensures.value in
+    let k : c.node_signal-signal.result.0 ≡ net.inputs + n = c.node_signal-signal.ensures.value in
     let here : ab (net.inputs + n) ≡ c.both.result = ap ab (sym k) ∙ sym (c.both.ensures ∙ ap₂ (λ x y. x && y) c.has.ensures c.has-in-loop-n.ensures) in
     elim c.if-both.branch [
       | then-both w ↦
@@ -35,5 +35,5 @@ pub returns : goal.returns
 returns c = λ s.
     let net = net_of c.args.network.now in
     let ab : ℕ → Bool = λ k. has c.args.a.now k && has c.args.b.now k in
-    let e : c.loop-n.n ≡ nodes net = omega (arith, c.node-count-n-end.ensures.value) in
+    let e : c.loop-n.n ≡ nodes net = omega (arith, c.node_count-n-end.ensures.value) in
     c.loop-n.invariant s ∙ ap (λ n. any_below n (λ j. eqb (net.inputs + j) s && ab (net.inputs + j))) e ∙ common-any net ab s

@@ -16,4 +16,4 @@ returns c = λ s.
     let b : has c.reaching-below.result ≡ into net (eqb T) p = same_set c.reaching-below.ensures ∙ ap (λ X. into net X p) t in
     let i : has c.reaching-towards.result s ≡ into net (outof net (eqb T) q) (p + q) s = c.reaching-towards.ensures s ∙ ap (λ X. into net X (p + q) s) a in
     let o : has c.reached-onward.result s ≡ outof net (into net (eqb T) p) (p + q) s = c.reached-onward.ensures s ∙ ap (λ X. outof net X (p + q) s) b in
-    c.common-nodes.ensures s ∙ ap₂ (λ x y. whole net s && (x && y)) i o
+    c.common_nodes.ensures s ∙ ap₂ (λ x y. whole net s && (x && y)) i o

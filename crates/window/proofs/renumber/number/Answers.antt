@@ -6,8 +6,8 @@ use Rattle.window.specs.Numbers.{new_at}
 use Rattle.window.proofs.Numbers.{leaf-below, leaf-rising, numbers-from}
 use Rattle.window.proofs.renumber.number.Goals as goal
 
-pub number-leaves-numbers-requires : goal.number-leaves-numbers-requires
-number-leaves-numbers-requires c =
+pub number_leaves-numbers-requires : goal.number_leaves-numbers-requires
+number_leaves-numbers-requires c =
     let net = net_of c.args.network.now in
     let m : ℕ → Bool = has c.args.members.now in
     let legal = legal-net c.args.network.now in
@@ -17,5 +17,5 @@ number-leaves-numbers-requires c =
 
 pub returns : goal.returns
 returns c =
-    numbers-from (net_of c.args.network.now) (has c.args.members.now) c.args.leaves.now (new_at c.number-leaves-numbers.result) (new_at c.number-members.new.numbers) c.requires.leaves
-    c.number-leaves-numbers.ensures c.number-members.ensures.members c.number-members.ensures.others
+    numbers-from (net_of c.args.network.now) (has c.args.members.now) c.args.leaves.now (new_at c.number_leaves-numbers.result) (new_at c.number_members.new.numbers) c.requires.leaves
+    c.number_leaves-numbers.ensures c.number_members.ensures.members c.number_members.ensures.others

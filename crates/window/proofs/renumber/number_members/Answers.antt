@@ -23,7 +23,7 @@ loop-n-preserved c =
     let net = net_of c.args.network.now in
     let m : ℕ → Bool = has c.args.members.now in
     let n : ℕ = c.loop-n.n in
-    let k : c.node-signal-signal.result.0 ≡ net.inputs + n = c.node-signal-signal.ensures.value in
+    let k : c.node_signal-signal.result.0 ≡ net.inputs + n = c.node_signal-signal.ensures.value in
     let here : m (net.inputs + n) ≡ c.has.result = ap m (sym k) ∙ sym c.has.ensures in
     let v = c.loop-n.invariant in
     let f : ℕ → ℕ = new_at c.loop-n.numbers in
@@ -34,12 +34,12 @@ loop-n-preserved c =
             λ s l h.
                 ap (λ (r : Renumbering). new_at r s) w.numbers-is ∙ w.put.ensures s
                 ∙ ⊎_elim
-                (λ e. put-here c.node-signal-signal.result.0 s c.loop-n.next (f s) (k ∙ sym e) ∙ v.0 ∙ ap (λ i. c.args.leaves + count_below i m) (sym e))
-                (λ ne. put-there c.node-signal-signal.result.0 s c.loop-n.next (f s) (λ e. ne (sym e ∙ k)) ∙ v.1 s (omega arith) h)
+                (λ e. put-here c.node_signal-signal.result.0 s c.loop-n.next (f s) (k ∙ sym e) ∙ v.0 ∙ ap (λ i. c.args.leaves + count_below i m) (sym e))
+                (λ ne. put-there c.node_signal-signal.result.0 s c.loop-n.next (f s) (λ e. ne (sym e ∙ k)) ∙ v.1 s (omega arith) h)
                 (cases_eq s (net.inputs + n)),
             λ s h.
                 ap (λ (r : Renumbering). new_at r s) w.numbers-is ∙ w.put.ensures s
-                ∙ put-there c.node-signal-signal.result.0 s c.loop-n.next (f s) (λ e. both_ways (m s) h (ap m (sym e ∙ k) ∙ y)) ∙ v.2 s h,
+                ∙ put-there c.node_signal-signal.result.0 s c.loop-n.next (f s) (λ e. both_ways (m s) h (ap m (sym e ∙ k) ∙ y)) ∙ v.2 s h,
           )
       | else-has w ↦
           let y : m (net.inputs + n) ≡ false = here ∙ w.if-has.false in (
@@ -51,28 +51,28 @@ loop-n-preserved c =
           )
     ]
 
-pub overflow-cast-next : goal.overflow-cast-next
-overflow-cast-next c =
+pub overflow_cast-next : goal.overflow_cast-next
+overflow_cast-next c =
     let net = net_of c.args.network.now in
     let a = count_most (net.inputs + c.loop-n.n) (has c.args.members.now) in
     let l = c.loop-n-test.true in
-    let b = c.node-count-n-end.ensures.few in
-    let d = c.node-count-n-end.ensures.inputs in
+    let b = c.node_count-n-end.ensures.few in
+    let d = c.node_count-n-end.ensures.inputs in
     let g = c.loop-n.invariant.0 in
     omega arith
 
-pub overflow-add-next : goal.overflow-add-next
-overflow-add-next c =
+pub overflow_add-next : goal.overflow_add-next
+overflow_add-next c =
     let net = net_of c.args.network.now in
     let a = count_most (net.inputs + c.loop-n.n) (has c.args.members.now) in
     let l = c.loop-n-test.true in
-    let b = c.node-count-n-end.ensures.few in
-    let d = c.node-count-n-end.ensures.inputs in
+    let b = c.node_count-n-end.ensures.few in
+    let d = c.node_count-n-end.ensures.inputs in
     let g = c.loop-n.invariant.0 in
     omega arith
 
 pub returns : goal.returns
 returns c =
     let net = net_of c.args.network.now in
-    let e : c.loop-n.n ≡ nodes net = omega (arith, c.node-count-n-end.ensures.value) in
+    let e : c.loop-n.n ≡ nodes net = omega (arith, c.node_count-n-end.ensures.value) in
     record { members = λ s l h. c.loop-n.invariant.1 s (omega arith) h; others = c.loop-n.invariant.2 }

@@ -11,8 +11,8 @@ use Rattle.window.specs.Sets.{has, feeds}
 use Rattle.window.specs.Entries.{listed}
 use Rattle.window.proofs.roots.exposed.Goals as goal
 
-pub set-of-exposed-requires : goal.set-of-exposed-requires
-set-of-exposed-requires c = λ i l.
+pub set_of-exposed-requires : goal.set_of-exposed-requires
+set_of-exposed-requires c = λ i l.
     let net = net_of c.args.network.now in
     let legal = legal-net c.args.network.now in
     let a = legal.few_inputs in
@@ -24,8 +24,8 @@ pub returns : goal.returns
 returns c = λ s.
     let net = net_of c.args.network.now in
     let m : ℕ → Bool = has c.args.members.now in
-    let o : ℕ → Bool = has c.other-nodes-others.result in
+    let o : ℕ → Bool = has c.other_nodes-others.result in
     let e : feeds net o (nodes net) s ≡ feeds net (λ s. not (m s)) (nodes net) s =
     any_same (nodes net) (λ j. o (net.inputs + j) && is_fanin (row_at net j) s) (λ j. not (m (net.inputs + j)) && is_fanin (row_at net j) s)
-    (λ j l. ap (λ b. b && is_fanin (row_at net j) s) (c.other-nodes-others.ensures (net.inputs + j) ∙ ap (λ b. b && not (m (net.inputs + j))) (whole-node net j l))) in
-    c.widen-in.ensures s ∙ ap₂ ◌||◌ (c.set-of-exposed.ensures s ∙ ap (λ (xs : List Signal). listed xs s) c.outputs.ensures) e
+    (λ j l. ap (λ b. b && is_fanin (row_at net j) s) (c.other_nodes-others.ensures (net.inputs + j) ∙ ap (λ b. b && not (m (net.inputs + j))) (whole-node net j l))) in
+    c.widen_in.ensures s ∙ ap₂ ◌||◌ (c.set_of-exposed.ensures s ∙ ap (λ (xs : List Signal). listed xs s) c.outputs.ensures) e

@@ -14,7 +14,7 @@ use Rattle.window.specs.declared.set.SignalSet.{SignalSet}
 use Rattle.window.proofs.Marks.{or_no}
 use Rattle.window.proofs.Leads.{eqb-add, led-more, led-same}
 use Rattle.window.proofs.roots.led_from.Goals as goal
-use Rattle.window.proofs.roots.led_from.Goals.{then-is-led, else-is-led}
+use Rattle.window.proofs.roots.led_from.Goals.{then-is_led, else-is_led}
 
 pub loop-n-init : goal.loop-n-init
 loop-n-init c =
@@ -35,26 +35,26 @@ loop-n-preserved c =
     let r : ℕ → Bool = reach_of net m T in
     let v : ℕ → Bool = has c.loop-n.led in
     let low = lowers (legal-net c.args.network.now) in
-    let l : n < nodes net = omega (arith, c.node-count-n-end.ensures.value) in
-    let k : c.node-signal-signal.result.0 ≡ a = c.node-signal-signal.ensures.value in
+    let l : n < nodes net = omega (arith, c.node_count-n-end.ensures.value) in
+    let k : c.node_signal-signal.result.0 ≡ a = c.node_signal-signal.ensures.value in
     let z : a + 1 ≡ net.inputs + (n + 1) = omega arith in
-    let here : c.is-led.result ≡ r a =
-    c.is-led.ensures ∙ ap (λ b. b && (eqb n c.args.node || any_below c.node-row.result.now.count (λ i. v (fanin c.node-row.result.now i)))) (c.has.ensures ∙ ap m k)
-    ∙ ap (λ b. m a && (b || any_below c.node-row.result.now.count (λ i. v (fanin c.node-row.result.now i)))) (eqb-add net.inputs n c.args.node)
-    ∙ ap (λ (w : Row). m a && (eqb a T || any_below w.count (λ i. v (fanin w i)))) c.node-row.ensures.value
+    let here : c.is_led.result ≡ r a =
+    c.is_led.ensures ∙ ap (λ b. b && (eqb n c.args.node || any_below c.node_row.result.now.count (λ i. v (fanin c.node_row.result.now i)))) (c.has.ensures ∙ ap m k)
+    ∙ ap (λ b. m a && (b || any_below c.node_row.result.now.count (λ i. v (fanin c.node_row.result.now i)))) (eqb-add net.inputs n c.args.node)
+    ∙ ap (λ (w : Row). m a && (eqb a T || any_below w.count (λ i. v (fanin w i)))) c.node_row.ensures.value
     ∙ reach-local m T a (row_at net n) v r (λ i q. c.loop-n.invariant.0 (fanin (row_at net n) i) (low n l i q))
     ∙ sym ((reach-holds net m T low).node n l) in
-    elim c.if-is-led.branch [
-      | then-is-led w ↦
-          let y = led-more v (has c.if-is-led.led) r a c.node-signal-signal.result.0 c.loop-n.invariant.0 c.loop-n.invariant.1 k (λ s. ap (λ (xs : SignalSet). has xs s) w.led-is ∙ w.insert.ensures s) (sym here ∙ w.if-is-led.true) in
+    elim c.if-is_led.branch [
+      | then-is_led w ↦
+          let y = led-more v (has c.if-is_led.led) r a c.node_signal-signal.result.0 c.loop-n.invariant.0 c.loop-n.invariant.1 k (λ s. ap (λ (xs : SignalSet). has xs s) w.led-is ∙ w.insert.ensures s) (sym here ∙ w.if-is_led.true) in
           (λ s q. y.0 s (omega arith), λ s q. y.1 s (omega arith))
-      | else-is-led w ↦
-          let y = led-same v v r a a c.loop-n.invariant.0 c.loop-n.invariant.1 refl (sym here ∙ w.if-is-led.false) in
+      | else-is_led w ↦
+          let y = led-same v v r a a c.loop-n.invariant.0 c.loop-n.invariant.1 refl (sym here ∙ w.if-is_led.false) in
           (λ s q. ap (λ (xs : SignalSet). has xs s) w.led-is ∙ y.0 s (omega arith), λ s q. ap (λ (xs : SignalSet). has xs s) w.led-is ∙ y.1 s (omega arith))
     ]
 
 pub returns : goal.returns
 returns c = λ s l.
     let net = net_of c.args.network.now in
-    let e : c.loop-n.n ≡ nodes net = omega (arith, c.node-count-n-end.ensures.value) in
+    let e : c.loop-n.n ≡ nodes net = omega (arith, c.node_count-n-end.ensures.value) in
     c.loop-n.invariant.0 s (omega arith)

@@ -21,7 +21,7 @@ loop-n-preserved c = λ s.
     let v : Bool = has c.loop-n.others s in
     let q : ℕ → Bool = λ k. not (has c.args.members.now k) in
     let p : ℕ → Bool = λ j. eqb (net.inputs + j) s && q (net.inputs + j) in
-    let k : c.node-signal-signal.result.0 ≡ net.inputs + n = c.node-signal-signal.ensures.value in
+    let k : c.node_signal-signal.result.0 ≡ net.inputs + n = c.node_signal-signal.ensures.value in
     let here : q (net.inputs + n) ≡ not c.has.result = ap q (sym k) ∙ ap not (sym c.has.ensures) in
     elim c.if-not-has.branch [
       | then-not-has w ↦
@@ -35,5 +35,5 @@ pub returns : goal.returns
 returns c = λ s.
     let net = net_of c.args.network.now in
     let q : ℕ → Bool = λ k. not (has c.args.members.now k) in
-    let e : c.loop-n.n ≡ nodes net = omega (arith, c.node-count-n-end.ensures.value) in
+    let e : c.loop-n.n ≡ nodes net = omega (arith, c.node_count-n-end.ensures.value) in
     c.loop-n.invariant s ∙ ap (λ n. any_below n (λ j. eqb (net.inputs + j) s && q (net.inputs + j))) e ∙ common-any net q s

@@ -13,5 +13,5 @@ returns c = λ s l.
     let net = net_of c.args.network.now in
     let m : ℕ → Bool = has c.args.members.now in
     let T : ℕ = net.inputs + c.args.node in
-    c.common-nodes.ensures s ∙ ap₂ (λ a b. whole net s && (a && b)) (c.led-from-led.ensures s l) (c.exposed-exposed.ensures s)
+    c.common_nodes.ensures s ∙ ap₂ (λ a b. whole net s && (a && b)) (c.led_from-led.ensures s l) (c.exposed-exposed.ensures s)
     ∙ led-whole net m T (lowers (legal-net c.args.network.now)) s (is_exposed net m s) l

@@ -8,5 +8,5 @@ use Rattle.window.proofs.context.build.judge.Goals as goal
 pub returns : goal.returns
 returns c =
     let net = net_of c.args.network.now in
-    let l : c.args.node < nodes net = ltb-true _ _ (sym c.is-node.ensures ∙ c.if-not-is-node.false) in
-    judged net c.args.node c.args.scope l (sym c.is-too-high.ensures ∙ c.if-is-too-high.false) c.gather.result c.gather.ensures
+    let l : c.args.node < nodes net = ltb-true _ _ (sym c.is_node.ensures ∙ c.if-not-is_node.false) in
+    judged net c.args.node c.args.scope l (sym c.is_too_high.ensures ∙ c.if-is_too_high.false) c.gather.result c.gather.ensures
