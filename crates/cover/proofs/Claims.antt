@@ -1,5 +1,5 @@
 -- Every cover meets the laws, in whatever order its literals were tried.
-use Rattle.std.proofs.Common.{◌≡◌, ℕ, ◌+◌, ◌/◌, ◌%◌, ◌^◌, ◌<◌, ◌≤◌, Bool, true, false, not, ◌&&◌, ◌||◌, eqb, ltb, ◌⊎◌, List, [], ◌∷◌, ◌++◌, length, get_or, take, set, IfOk, Ok, Err, Result, sym, refl, ap, ◌∙◌, subst, ap₂, inl, inr, ⊎_elim, zero-add, arith, pow_mono, shr_lt}
+use Rattle.std.proofs.Common.{◌≡◌, ℕ, ◌/◌, ◌%◌, ◌^◌, ◌<◌, ◌≤◌, true, false, not, ◌&&◌, eqb, ltb, List, [], ◌∷◌, length, get_or, take, set, IfOk, Ok, Err, Result, sym, refl, ap, ◌∙◌, subst, ap₂, inl, inr, ⊎_elim, zero-add, arith, pow_mono, shr_lt}
 use Rattle.std.specs.List.{range_with_len, ContainsAt as Has}
 use Rattle.std.proofs.lemmas.List.FromFn.{get_or-range_with_len, length-range_with_len}
 use Rattle.std.proofs.ByRecursion.{has_get_or}
@@ -13,7 +13,7 @@ use Rattle.cover.specs.Cubes.{in_cube, in_cover, struck, start, no_cube}
 use Rattle.cover.specs.Covers.{care_with, minterms_on, minterms_off, touches, gathered, pruned, cover_of}
 use Rattle.cover.specs.Tables.{IsSet}
 use Rattle.cover.specs.Laws.{Tries, IsCare, Lawful, Agrees}
-use Rattle.cover.specs.Answers.{rising_cover, laid_out, Covering}
+use Rattle.cover.specs.Answers.{rising_cover, Covering}
 use Rattle.cover.specs.declared.cube.Cube.{Cube}
 use Rattle.cover.specs.declared.cover.CoverError.{CoverError}
 use Rattle.cover.proofs.Listed.{kept-has, has_kept}

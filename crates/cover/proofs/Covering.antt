@@ -1,12 +1,12 @@
 -- What holds of the cubes that were gathered, in whatever order the literals were tried.
-use Rattle.std.proofs.Common.{◌≡◌, ℕ, suc, ◌+◌, ◌^◌, ◌<◌, ◌≤◌, Bool, true, false, cond, not, ◌&&◌, ◌||◌, ◌⊎◌, List, [], ◌∷◌, length, sym, refl, ap, ◌∙◌, subst, ap₂, inl, inr, ⊎_elim, arith}
+use Rattle.std.proofs.Common.{◌≡◌, ℕ, ◌^◌, ◌<◌, Bool, true, false, cond, List, [], ◌∷◌, refl, ◌∙◌, subst, ap₂, ⊎_elim, arith}
 use Rattle.std.specs.List.{ContainsAt as Has}
 use Rattle.std.proofs.lemmas.Bool.{or_left, or_right, both_ways}
 use Rattle.std.proofs.lemmas.Bool.Decides.{nat_tests}
 use Rattle.roll.specs.Rolls.{entered, ascending}
 use Rattle.roll.proofs.Members.{has-none, has_here, has_there, has-cases}
 use Rattle.roll.proofs.Places.{Transitive, Connected}
-use Rattle.roll.proofs.Rising.{entered-rising, has-entered, length-entered}
+use Rattle.roll.proofs.Rising.{entered-rising, has-entered}
 use Rattle.cover.specs.Cubes.{in_cube, in_cover, start, cube_below}
 use Rattle.cover.specs.Covers.{touches, expanded, gathered}
 use Rattle.cover.specs.Laws.{Tries, IsCube}

@@ -1,5 +1,5 @@
 -- Cubes for every on-minterm, one minterm on.
-use Rattle.std.proofs.Common.{◌≡◌, ℕ, suc, ◌+◌, ◌-◌, ◌^◌, ◌<◌, ◌≤◌, Bool, true, false, cond, not, ◌&&◌, ◌||◌, ◌⊎◌, List, [], ◌∷◌, ◌++◌, length, take, drop, filter, sym, refl, ap, ◌∙◌, subst, ap₂, inl, inr, ⊎_elim, add-zero, le_of_lt, add-one, arith}
+use Rattle.std.proofs.Common.{◌≡◌, ℕ, suc, ◌+◌, ◌-◌, ◌<◌, ◌≤◌, Bool, true, false, cond, not, ◌&&◌, ◌||◌, List, [], ◌∷◌, length, take, drop, filter, sym, refl, ap, ◌∙◌, subst, ap₂, ⊎_elim, le_of_lt, add-one, arith}
 use native.Mathlib.Nat.{sub-zero}
 use Rattle.std.specs.List.{range_with_len, ContainsAt as Has}
 use Rattle.std.proofs.lemmas.List.{length-take-le}

@@ -1,9 +1,9 @@
 -- What holds of the cubes that pruning leaves.
-use Rattle.std.proofs.Common.{◌≡◌, ℕ, zero, suc, ◌+◌, ◌<◌, ◌≤◌, Bool, true, false, cond, not, ◌&&◌, ◌||◌, ◌⊎◌, List, [], ◌∷◌, ◌++◌, length, get_or, take, drop, sym, refl, ap, ◌∙◌, subst, ap₂, inl, inr, ⊎_elim, append_assoc, append-nil, add-one, arith, length-append, below_more}
+use Rattle.std.proofs.Common.{◌≡◌, ℕ, ◌+◌, ◌<◌, Bool, true, false, cond, not, ◌||◌, ◌⊎◌, List, [], ◌∷◌, ◌++◌, length, get_or, take, drop, sym, refl, ap, ◌∙◌, inl, inr, ⊎_elim, append_assoc, append-nil, add-one, arith, length-append, below_more}
 use Rattle.std.specs.List.{ContainsAt as Has, remove}
 use Rattle.std.proofs.lemmas.List.{get_or_append_left, take-append-le, drop-append-le, take_at, drop_all, get_or_at}
 use Rattle.std.proofs.ByRecursion.{has_push_cases}
-use Rattle.std.proofs.lemmas.Bool.{and_parts, and_from, and_cases, or_left, or_right, or_cases, or_parts, or_from, not-true, not-false, both_ways, cases_Bool}
+use Rattle.std.proofs.lemmas.Bool.{and_parts, and_from, and_cases, or_left, or_right, or_cases, or_parts, or_from, not-true, not-false, both_ways}
 use Rattle.roll.specs.Rolls.{under, ascending}
 use Rattle.roll.proofs.Members.{has-none, has_here, has_there, has-cases}
 use Rattle.cover.specs.Cubes.{in_cube, in_cover, cube_below, no_cube}

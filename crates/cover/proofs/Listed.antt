@@ -1,14 +1,14 @@
 -- The minterms of a set, as a list.
-use Rattle.std.proofs.Common.{◌≡◌, ℕ, zero, suc, ◌+◌, ◌-◌, ◌*◌, ◌/◌, ◌%◌, ◌^◌, ◌<◌, ◌≤◌, Bool, true, false, cond, not, ◌&&◌, ◌||◌, eqb, ltb, ◌⊎◌, List, [], ◌∷◌, ◌++◌, length, get_or, Decides, filter, sym, refl, ap, ◌∙◌, subst, ap₂, inl, inr, ⊎_elim, add-zero, zero-add, zero-mul, arith, pow_pos, pow_mono, shr_lt}
+use Rattle.std.proofs.Common.{◌≡◌, ℕ, zero, suc, ◌+◌, ◌-◌, ◌*◌, ◌/◌, ◌%◌, ◌^◌, ◌<◌, ◌≤◌, Bool, true, false, cond, ◌&&◌, eqb, ltb, [], ◌∷◌, ◌++◌, get_or, Decides, filter, sym, refl, ap, ◌∙◌, subst, ap₂, inl, inr, ⊎_elim, add-zero, zero-add, zero-mul, arith, pow_pos, pow_mono, shr_lt}
 use native.Mathlib.Nat.{zero-mod}
 use lib.Bits.{bit_and, and_high}
 use lib.Pow.{shr_mod}
 use Rattle.std.proofs.lemmas.Nat.{le-div, mul-le}
-use Rattle.std.specs.List.{range_with_len, ContainsAt as Has, HoldsAt}
+use Rattle.std.specs.List.{range_with_len, ContainsAt as Has}
 use Rattle.std.proofs.lemmas.List.Elements.{filter-append}
 use Rattle.std.proofs.ByRecursion.{has_get_or}
 use Rattle.std.proofs.lemmas.List.{append-nil}
-use Rattle.std.proofs.lemmas.Bool.{cases_eq, and_left, lt-ltb, le-ltb, cond-true, cond-false, eq-eqb, ne_eqb, both_ways, cases_lt}
+use Rattle.std.proofs.lemmas.Bool.{cases_eq, and_left, lt-ltb, le-ltb, cond-true, cond-false, eq-eqb, ne_eqb, cases_lt}
 use Rattle.std.proofs.lemmas.Bool.Decides.{same_from_decides, Decides-by_or, Decides-like}
 use Rattle.network.specs.Limits.{minterms, max_fanins}
 use Rattle.network.specs.Rows.{bit_of}

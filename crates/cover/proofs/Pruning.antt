@@ -1,9 +1,8 @@
 -- Irredundancy, one cube on.
-use Rattle.std.proofs.Common.{◌≡◌, ℕ, suc, ◌+◌, ◌-◌, ◌<◌, ◌≤◌, Bool, true, false, cond, not, ◌&&◌, ◌||◌, ◌⊎◌, List, [], ◌∷◌, ◌++◌, length, get_or, take, drop, set, Decides, sym, refl, ap, ◌∙◌, subst, ap₂, inl, inr, ⊎_elim, add-zero, arith}
+use Rattle.std.proofs.Common.{◌≡◌, ℕ, ◌+◌, ◌-◌, ◌<◌, ◌≤◌, Bool, true, false, not, ◌&&◌, ◌||◌, List, [], ◌∷◌, ◌++◌, length, get_or, take, drop, set, Decides, sym, refl, ap, ◌∙◌, subst, ap₂, inl, inr, ⊎_elim, add-zero, arith}
 use Rattle.std.specs.List.{ContainsAt as Has}
 use Rattle.std.proofs.lemmas.List.{get_or-set_same, get_or-set_other, get_or-take, get_or-drop, length-set, length-take, length-take-le, drop_all, drop_more, drop-drop, drop-set-lt, take_more_set}
-use Rattle.std.proofs.lemmas.Bool.{and_parts, and_from, and_left, and_right, and_cases, or_left, or_right, or_parts, or_from, or_cases, not-true, not-false, not_from_true, not_from_false, both_ways, cases_eq, cases_Bool, cond-true, cond-false}
-use Rattle.network.specs.Limits.{minterms}
+use Rattle.std.proofs.lemmas.Bool.{and_parts, and_from, and_left, and_right, or_left, or_right, or_parts, or_from, not-true, not_from_true, not_from_false, both_ways, cases_eq, cases_Bool, cond-true, cond-false}
 use Rattle.network.specs.Rows.{bit_of}
 use Rattle.network.specs.declared.row.Function.{Function}
 use Rattle.roll.proofs.Members.{has-none, has_here, has_there, has-cases}

@@ -1,6 +1,6 @@
 -- A cube with fewer literals.
-use Rattle.std.proofs.Common.{◌≡◌, ℕ, ◌-◌, ◌%◌, ◌^◌, ◌<◌, ◌≤◌, Bool, true, false, cond, List, [], ◌∷◌, sym, refl, ap, ◌∙◌, ap₂, mod-eq_of_lt}
-use lib.Bits.{bit_and, and_comm, and_self, and_mask}
+use Rattle.std.proofs.Common.{◌≡◌, ℕ, ◌-◌, ◌^◌, ◌<◌, Bool, true, false, cond, List, [], ◌∷◌, sym, ap, ◌∙◌, mod-eq_of_lt}
+use lib.Bits.{bit_and, and_mask}
 use Rattle.std.proofs.lemmas.Bool.{eq-eqb, eqb-true}
 use Rattle.cover.specs.Cubes.{in_cube, part, struck, start}
 use Rattle.cover.specs.Covers.{touches, expanded}

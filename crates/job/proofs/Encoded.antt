@@ -1,8 +1,8 @@
 -- The fields of an encoded network, and that it passes every check.
 use Rattle.std.proofs.Common.{◌≡◌, ℕ, zero, suc, ◌+◌, ◌-◌, ◌*◌, ◌/◌, ◌%◌, ◌^◌, ◌<◌, ◌≤◌, min, List, [], ◌∷◌, ◌++◌, length, get_or, take, drop, sym, refl, ap, ◌∙◌, subst, add-zero, add-one, arith}
 use Rattle.std.specs.List.{flat_map}
-use Rattle.std.proofs.lemmas.List.{append_assoc, get_or_append_left, get_or-append_right, length-append, length-take-le, take-append-drop, drop_more, take_all, take_more, get_or-take}
-use Rattle.network.specs.Limits.{max_fanins, function_bytes}
+use Rattle.std.proofs.lemmas.List.{append_assoc, get_or_append_left, get_or-append_right, length-append, length-take-le, take-append-drop, drop_more, take_all, get_or-take}
+use Rattle.network.specs.Limits.{max_fanins}
 use Rattle.network.specs.Rows.{no_signal, blank, fanin, Legal}
 use Rattle.network.specs.Nets.{Net, nodes, row_at, output_at, LegalNet}
 use Rattle.network.specs.declared.row.Signal.{Signal}
@@ -10,7 +10,7 @@ use Rattle.network.specs.declared.row.Row.{Row}
 use Rattle.job.specs.Checks.{max_outputs, byte_at, word_at, inputs_of, outputs_of, nodes_of, offset_of, length_of, output_place, head_end, due_of, width_of, record_size}
 use Rattle.job.specs.Bytes.{le16, signal_bytes, record_bytes, sizes, pairs_from, encode}
 use Rattle.job.proofs.Functions.{wide, clean-first}
-use Rattle.job.proofs.Sizes.{Sound, joined-append, sizes-append, sizes-more, sizes-within, pairs-append, length-signals, length_pairs, length-record}
+use Rattle.job.proofs.Sizes.{Sound, joined-append, sizes-more, sizes-within, pairs-append, length-signals, length_pairs, length-record}
 use Rattle.job.proofs.Passed.{Fits, Passed}
 
 -- a byte and a word behind other bytes

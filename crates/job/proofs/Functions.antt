@@ -1,9 +1,9 @@
 -- The bytes of a function that has no bit at or above 2 ^ c, and its bits.
-use Rattle.std.proofs.Common.{◌≡◌, ℕ, zero, suc, ◌+◌, ◌-◌, ◌*◌, ◌/◌, ◌%◌, ◌^◌, ◌<◌, ◌≤◌, min, max, Bool, true, false, eqb, length, get_or, sym, refl, ap, ◌∙◌, subst, inl, inr, zero-mul, arith, pow_mono}
+use Rattle.std.proofs.Common.{◌≡◌, ℕ, zero, suc, ◌+◌, ◌-◌, ◌*◌, ◌/◌, ◌%◌, ◌^◌, ◌<◌, ◌≤◌, min, false, length, get_or, sym, ap, ◌∙◌, subst, inl, inr, zero-mul, arith, pow_mono}
 use Rattle.std.proofs.lemmas.List.{get_or_past}
 use Rattle.std.proofs.lemmas.Bool.{cases_lt, cases_eq, ne_eqb, eqb-false}
 use Rattle.std.proofs.lemmas.Nat.{pow-add, pow_pos, shr_below, shr_split, shr_high, mod_below}
-use Rattle.network.specs.Limits.{max_fanins, minterms, function_bytes}
+use Rattle.network.specs.Limits.{max_fanins, function_bytes}
 use Rattle.network.specs.Rows.{bit_at, bit_of, Clean, Bytes}
 use Rattle.network.specs.declared.row.Function.{Function}
 use Rattle.job.specs.Checks.{width_of}

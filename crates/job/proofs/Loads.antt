@@ -1,10 +1,10 @@
 -- What is read of a file that passes, part by part.
-use Rattle.std.proofs.Common.{◌≡◌, ℕ, zero, suc, ◌+◌, ◌-◌, ◌*◌, ◌<◌, ◌≤◌, List, [], ◌∷◌, ◌++◌, length, get_or, take, drop, sym, refl, ap, ◌∙◌, subst, inl, inr, add-zero, arith}
+use Rattle.std.proofs.Common.{◌≡◌, ℕ, ◌+◌, ◌*◌, ◌<◌, ◌≤◌, List, [], ◌∷◌, ◌++◌, length, get_or, take, drop, sym, refl, ap, ◌∙◌, subst, inl, inr, add-zero, arith}
 use Rattle.std.specs.List.{flat_map}
-use Rattle.std.proofs.lemmas.List.{append_assoc, get_or-take, get_or-drop, ext_get_or, length-take-le, length-drop, length_push}
+use Rattle.std.proofs.lemmas.List.{get_or-take, get_or-drop, ext_get_or, length-take-le, length-drop, length_push}
 use Rattle.std.proofs.lemmas.Bool.{cases_lt}
 use Rattle.network.specs.Limits.{max_fanins, function_bytes}
-use Rattle.network.specs.Rows.{no_signal, Bytes}
+use Rattle.network.specs.Rows.{no_signal}
 use Rattle.network.specs.declared.row.Signal.{Signal}
 use Rattle.network.specs.declared.row.Function.{Function}
 use Rattle.network.specs.declared.row.Row.{Row}

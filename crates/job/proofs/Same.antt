@@ -4,9 +4,8 @@ use Rattle.std.specs.List.{flat_map}
 use Rattle.std.proofs.lemmas.List.{append_assoc, take_at, drop_at, ext_get_or, get_or-take, length-take-le}
 use Rattle.std.proofs.lemmas.Bool.{cases_lt}
 use Rattle.network.specs.Rows.{no_signal, blank, Legal}
-use Rattle.network.specs.Nets.{Net, nodes, row_at, LegalNet}
+use Rattle.network.specs.Nets.{Net, nodes, LegalNet}
 use Rattle.network.specs.declared.row.Signal.{Signal}
-use Rattle.network.specs.declared.row.Function.{Function}
 use Rattle.network.specs.declared.row.Row.{Row}
 use Rattle.job.specs.Checks.{width_of, inputs_of, outputs_of, nodes_of}
 use Rattle.job.specs.Bytes.{le16, signal_bytes, record_bytes, pairs_from, encode}

@@ -1,7 +1,7 @@
 -- Records and pairs, one more at the end.
-use Rattle.std.proofs.Common.{◌≡◌, ℕ, zero, suc, ◌+◌, ◌*◌, ◌<◌, ◌≤◌, List, [], ◌∷◌, ◌++◌, length, get_or, take, drop, sym, refl, ap, ◌∙◌, subst, add-zero, add_assoc, arith}
+use Rattle.std.proofs.Common.{◌≡◌, ℕ, ◌+◌, ◌*◌, ◌<◌, ◌≤◌, List, [], ◌∷◌, ◌++◌, length, get_or, take, drop, sym, refl, ap, ◌∙◌, add-zero, add_assoc, arith}
 use Rattle.std.specs.List.{flat_map}
-use Rattle.std.proofs.lemmas.List.{append_assoc, append-nil, flat_map_more, length-append, length-take-le, take_more, take-append-drop}
+use Rattle.std.proofs.lemmas.List.{append_assoc, flat_map_more, length-append, length-take-le, take_more, take-append-drop}
 use Rattle.network.specs.Limits.{max_fanins, function_bytes}
 use Rattle.network.specs.Rows.{blank}
 use Rattle.network.specs.declared.row.Row.{Row}

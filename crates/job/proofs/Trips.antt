@@ -1,15 +1,13 @@
 -- Reading what was written, and writing what was read.
-use Rattle.std.proofs.Common.{◌≡◌, ℕ, List, ◌++◌, length, take, drop, Some, None, Ok, Err, Result, sym, refl, ap, ◌∙◌, arith}
+use Rattle.std.proofs.Common.{◌≡◌, ℕ, List, length, take, drop, Some, None, Ok, Err, sym, ap, ◌∙◌, arith}
 use Rattle.std.proofs.lemmas.List.{take_at}
 use Rattle.network.specs.Nets.{LegalNet}
 use Rattle.network.proofs.Nets.{legal-net}
 use Rattle.job.specs.declared.job.Job.{Job}
-use Rattle.job.specs.declared.denial.Cause.{Cause}
-use Rattle.job.specs.declared.denial.ReadError.{ReadError}
 use Rattle.job.specs.declared.denial.ReadError.TheVariants.{Refused, NoMemory}
 use Rattle.job.specs.Checks.{verdict, checks}
 use Rattle.job.specs.Bytes.{encode}
-use Rattle.job.specs.Jobs.{job_net, Reads, Writes, SameAgain, Reopens, WritesBack}
+use Rattle.job.specs.Jobs.{job_net, Reopens, WritesBack}
 use Rattle.job.proofs.Passed.{passes}
 use Rattle.job.proofs.Encoded.{encoded-passes}
 use Rattle.job.proofs.Same.{encode_same}

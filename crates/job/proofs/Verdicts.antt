@@ -1,5 +1,5 @@
 -- The first check that fails, part by part.
-use Rattle.std.proofs.Common.{◌≡◌, ℕ, zero, suc, ◌+◌, ◌*◌, ◌<◌, ◌≤◌, Bool, true, false, cond, List, [], ◌∷◌, ◌++◌, length, get_or, Some, None, Option, sym, refl, ap, ◌∙◌, subst, inl, inr, add-one, arith}
+use Rattle.std.proofs.Common.{◌≡◌, ℕ, zero, suc, ◌+◌, ◌*◌, ◌<◌, ◌≤◌, Bool, true, false, cond, List, [], ◌∷◌, ◌++◌, length, Some, None, Option, sym, refl, ap, ◌∙◌, subst, inl, inr, add-one, arith}
 use Rattle.std.proofs.lemmas.Bool.{cases_lt}
 use Rattle.job.specs.declared.denial.Refusal.{Refusal}
 use Rattle.job.specs.Checks.{Check, verdict, upto, due_of, offset_of, length_of, byte_at, shape_check, stray_check, fanin_checks, record_checks, node_checks, head_checks, output_checks, pair_checks, end_checks, inputs_of, outputs_of, nodes_of, checks}

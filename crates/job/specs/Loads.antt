@@ -1,10 +1,10 @@
 -- What is known of a network while it is read from a file that passes.
-use Rattle.std.specs.Prelude.{◌≡◌, ℕ, ◌+◌, ◌*◌, ◌<◌, ◌≤◌, List, [], length, get_or, None, Ok, Err, Result}
+use Rattle.std.specs.Prelude.{◌≡◌, ℕ, ◌+◌, ◌*◌, List, [], length, None}
 use Rattle.std.specs.List.{flat_map}
 use Rattle.network.specs.Nets.{Net, nodes}
 use Rattle.network.specs.Rows.{Legal}
 use Rattle.network.specs.declared.row.Row.{Row}
-use Rattle.job.specs.Checks.{byte_at, word_at, inputs_of, nodes_of, head_end, due_of, record_size, record_checks, verdict}
+use Rattle.job.specs.Checks.{byte_at, inputs_of, nodes_of, head_end, due_of, record_size, record_checks, verdict}
 use Rattle.job.specs.Bytes.{signal_bytes, record_bytes, sizes, pairs_from, seg}
 
 -- the row of the record at a place: its bytes are those of the record, and it is legal wherever the record passes

@@ -1,5 +1,4 @@
 -- A network's invariant, as the statements have it.
-use Rattle.std.proofs.Common.{◌+◌}
 use Rattle.network.specs.Nets.{LegalNet}
 use Rattle.network.specs.Parts.{net_of}
 use Rattle.network.specs.declared.network.Network.{Network}

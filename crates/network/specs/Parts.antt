@@ -1,5 +1,5 @@
 -- What the calls of a network answer, in terms of the network that the statements speak of.
-use Rattle.std.specs.Prelude.{◌≡◌, ℕ, ◌+◌, ◌<◌, ◌≤◌, Ok, Err, vec_items, Result}
+use Rattle.std.specs.Prelude.{◌≡◌, ℕ, ◌<◌, ◌≤◌, Ok, Err, vec_items, Result}
 use Rattle.network.specs.Limits.{max_nodes}
 use Rattle.network.specs.Rows.{Legal}
 use Rattle.network.specs.Nets.{Net, nodes, size, with_row, with_output}

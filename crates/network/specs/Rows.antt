@@ -1,5 +1,5 @@
 -- Functions of minterms, and what a row has to meet as the row of a signal.
-use Rattle.std.specs.Prelude.{◌≡◌, ℕ, ◌/◌, ◌%◌, ◌^◌, ◌<◌, ◌≤◌, Bool, true, false, [], length, ◌==◌, slice_index, slice_index_or}
+use Rattle.std.specs.Prelude.{◌≡◌, ℕ, ◌/◌, ◌%◌, ◌^◌, ◌<◌, ◌≤◌, Bool, false, [], length, ◌==◌, slice_index, slice_index_or}
 use Rattle.network.specs.Limits.{max_fanins, minterms, function_bytes}
 use Rattle.network.specs.declared.row.Signal.{Signal}
 use Rattle.network.specs.declared.row.Function.{Function}

@@ -1,6 +1,6 @@
 -- What a search tells, and what an answer to adding leaves.
-use Rattle.std.proofs.Common.{◌≡◌, ℕ, suc, ◌+◌, ◌<◌, ◌≤◌, Bool, true, false, List, [], ◌∷◌, ◌++◌, length, get_or, take, drop, sym, refl, ap, ◌∙◌, subst, add-zero, le_of_lt, add-one, arith, length-append, length-drop}
-use Rattle.std.specs.List.{ContainsAt as Has, insert}
+use Rattle.std.proofs.Common.{◌≡◌, ℕ, suc, ◌+◌, ◌<◌, Bool, true, false, List, ◌++◌, length, get_or, take, drop, sym, ap, ◌∙◌, subst, add-zero, le_of_lt, add-one, arith, length-append, length-drop}
+use Rattle.std.specs.List.{insert}
 use Rattle.std.proofs.lemmas.List.{take_at, length-take-le, get_or_default}
 use Rattle.roll.specs.Rolls.{place, entered, ascending, IsRoll}
 use Rattle.roll.specs.Adding.{Stands, Goes, Adds, grown}

@@ -1,5 +1,5 @@
 -- Which values are entries of a list.
-use Rattle.std.proofs.Common.{◌≡◌, ℕ, zero, suc, ◌<◌, ◌⊎◌, List, [], ◌∷◌, length, get_or, sym, refl, ap, ◌∙◌, inl, inr, arith}
+use Rattle.std.proofs.Common.{◌≡◌, ℕ, zero, suc, ◌<◌, ◌⊎◌, List, [], ◌∷◌, length, get_or, inl, inr, arith}
 use Rattle.std.specs.List.{ContainsAt as Has}
 
 pub has-none : {X : Type 0} (x : X) → Has [] x → ⊥

@@ -1,9 +1,9 @@
 -- The place of a value in an ascending list.
-use Rattle.std.proofs.Common.{◌≡◌, ℕ, zero, suc, ◌+◌, ◌<◌, ◌≤◌, Bool, true, false, cond, ◌&&◌, ◌⊎◌, List, [], ◌∷◌, ◌++◌, length, get_or, sym, refl, ap, ◌∙◌, subst, inl, inr, ⊎_elim, arith}
+use Rattle.std.proofs.Common.{◌≡◌, ℕ, zero, suc, ◌<◌, ◌≤◌, Bool, true, false, cond, List, [], ◌∷◌, length, get_or, sym, refl, ap, ◌∙◌, subst, ⊎_elim, arith}
 use Rattle.std.specs.List.{insert, ContainsAt as Has}
 use Rattle.std.proofs.lemmas.Bool.{and_parts, both_ways}
 use Rattle.roll.specs.Rolls.{place, entered, under, ascending}
-use Rattle.roll.proofs.Members.{has-none, has_here, has_there, has-cases}
+use Rattle.roll.proofs.Members.{has-none, has-cases}
 
 abbrev pub Irreflexive : {X : Type 0} → (X → X → Bool) → Type 0
 Irreflexive {X = X} lt = (x : X) → lt x x ≡ false

@@ -1,6 +1,6 @@
-use Rattle.std.proofs.Common.{◌≡◌, ℕ, suc, ◌+◌, ◌-◌, ◌<◌, ◌≤◌, List, [], ◌∷◌, ◌++◌, length, get_or, take, drop, set, sym, refl, ap, ◌∙◌, subst, append_assoc, le_of_lt, add-one, arith, length-append, length-drop, length-take}
+use Rattle.std.proofs.Common.{◌≡◌, ℕ, ◌+◌, ◌-◌, ◌<◌, ◌≤◌, List, [], ◌∷◌, ◌++◌, length, take, drop, set, sym, refl, ap, ◌∙◌, subst, append_assoc, le_of_lt, add-one, arith, length-append, length-drop}
 use Rattle.std.specs.List.{insert}
-use Rattle.std.proofs.lemmas.List.{take_at, drop_at, set_at, set_split, take-append-drop, drop_more, drop-drop, length-take-le}
+use Rattle.std.proofs.lemmas.List.{take_at, drop_at, set_split, take-append-drop, length-take-le}
 use borrow.Rule.Slice.PartMut.{put_mid}
 
 abbrev turned : {X : Type 0} → List X → List X

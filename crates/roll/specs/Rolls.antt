@@ -1,5 +1,5 @@
 -- Ascending lists under an order, which is given as a test: `lt x y` says that x is below y.
-use Rattle.std.specs.Prelude.{◌≡◌, ℕ, suc, ◌<◌, ◌≤◌, Bool, true, false, cond, ◌&&◌, List, [], ◌∷◌, length, take, ◌≢◌, slice_index_or}
+use Rattle.std.specs.Prelude.{◌≡◌, ℕ, suc, ◌<◌, ◌≤◌, Bool, true, cond, ◌&&◌, List, [], ◌∷◌, length, take, ◌≢◌, slice_index_or}
 
 -- x is below each entry
 abbrev pub under : {X : Type 0} → (X → X → Bool) → X → List X → Bool

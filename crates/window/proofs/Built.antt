@@ -1,5 +1,5 @@
 -- A context that was built, and what holds of it.
-use Rattle.std.proofs.Common.{◌≡◌, ℕ, ◌+◌, ◌-◌, ◌<◌, ◌≤◌, Bool, true, false, cond, ltb, leb, List, map, length, get_or, IsErrAnd, Some, None, Ok, Err, vec_items, Decides, Option, Result, sym, refl, ap, ◌∙◌, subst, ⊎_elim, arith, MatchResult}
+use Rattle.std.proofs.Common.{◌≡◌, ℕ, ◌+◌, ◌<◌, ◌≤◌, Bool, true, false, cond, leb, List, length, get_or, IsErrAnd, Some, None, Ok, Err, vec_items, Decides, Option, Result, sym, ap, ◌∙◌, ⊎_elim, arith, MatchResult}
 use mathlib.Core.Path.{subst⁻¹}
 use Rattle.std.proofs.lemmas.List.{length-map, get_or-map, get_or_past}
 use Rattle.std.proofs.lemmas.Bool.{cases_lt, or_left, cond-true, cond-false, lt-leb, le-leb, lt-ltb, le-ltb}
@@ -21,7 +21,7 @@ use Rattle.context.proofs.Rules.{context-rules, context-own, whole-rules, whole-
 use Rattle.window.specs.Limits.{max_leaves}
 use Rattle.window.specs.Refusals.{number_of}
 use Rattle.window.specs.Scopes.{too_high, member_of}
-use Rattle.window.specs.Entries.{leaf_signals, NoLeaves, FoundLeaves}
+use Rattle.window.specs.Entries.{leaf_signals, NoLeaves}
 use Rattle.window.specs.Numbers.{Numbers}
 use Rattle.window.specs.Contexts.{too_many, refusal_of, IsContext, Gathers, Builds}
 use Rattle.window.specs.Laws.{ByPaths, OfContext, leaf_bits, SameValues, SameInverted, FreeExactly, FreeSoundly, FreeInWhole, OwnFunction, Safe, Harmful}

@@ -1,9 +1,8 @@
 -- The extracted network, one row or one root more.
-use Rattle.std.proofs.Common.{◌≡◌, ℕ, ◌+◌, ◌-◌, ◌<◌, ◌≤◌, Bool, true, false, ◌&&◌, ◌||◌, List, [], ◌∷◌, ◌++◌, map, length, get_or, sym, refl, ap, ◌∙◌, subst, ⊎_elim, add-one, arith}
-use mathlib.Core.Path.{subst⁻¹}
+use Rattle.std.proofs.Common.{◌≡◌, ℕ, ◌+◌, ◌-◌, ◌<◌, ◌≤◌, Bool, true, false, List, [], ◌∷◌, ◌++◌, map, length, get_or, sym, refl, ap, ◌∙◌, subst, ⊎_elim, add-one, arith}
 use Rattle.std.proofs.lemmas.List.{length-map, get_or-map}
 use Rattle.std.proofs.lemmas.Bool.{cases_Bool, cases_lt, both_ways, and_parts, or_left, or_right}
-use Rattle.network.specs.Limits.{max_inputs, max_nodes}
+use Rattle.network.specs.Limits.{max_nodes}
 use Rattle.network.specs.Rows.{fanin, no_signal, Legal}
 use Rattle.network.specs.Nets.{Net, nodes, size, row_at, output_at, LegalNet, bare, with_row, with_output}
 use Rattle.network.specs.declared.row.Signal.{Signal}
@@ -11,14 +10,13 @@ use Rattle.network.specs.declared.row.Row.{Row}
 use Rattle.theory.proofs.Values.{lowers}
 use Rattle.context.specs.Care.{count_below}
 use Rattle.context.specs.Ranks.{chosen}
-use Rattle.context.specs.Windows.{Members, is_leaf, leaves_of, members_of, reach_of, is_root}
+use Rattle.context.specs.Windows.{is_leaf, leaves_of, members_of, reach_of, is_root}
 use Rattle.context.specs.Extracts.{new_of, signal_of, renumber, extract_of}
 use Rattle.context.proofs.Counts.{count-lt}
 use Rattle.context.proofs.Ranks.{chosen-yes, chosen-no, chosen-length, chosen-rank}
 use Rattle.context.proofs.Reaches.{reach-holds}
 use Rattle.context.proofs.Extracts.{fanin-leaf}
 use Rattle.context.proofs.Made.{renumber-used, renumber-unused, renumber-places, extract-nodes, extract-row, extract-is, extract-legal}
-use Rattle.window.specs.Limits.{max_leaves}
 use Rattle.window.specs.Numbers.{Numbers, Ready}
 use Rattle.window.specs.Parts.{rows_to, roots_to}
 use Rattle.window.proofs.Fanins.{fanins-are, row_is}

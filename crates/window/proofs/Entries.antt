@@ -1,10 +1,10 @@
 -- What a roll of leaves lists.
-use Rattle.std.proofs.Common.{◌≡◌, ℕ, zero, suc, ◌+◌, ◌<◌, ◌≤◌, Bool, true, false, not, ◌&&◌, ◌||◌, eqb, ◌⊎◌, List, [], ◌∷◌, map, length, get_or, take, sym, refl, ap, ◌∙◌, subst, inl, inr, ⊎_elim, arith}
+use Rattle.std.proofs.Common.{◌≡◌, ℕ, suc, ◌+◌, ◌<◌, ◌≤◌, Bool, true, false, not, ◌&&◌, ◌||◌, eqb, List, [], ◌∷◌, map, length, get_or, take, sym, refl, ap, ◌∙◌, inl, inr, ⊎_elim, arith}
 use mathlib.Core.Path.{subst⁻¹}
 use Rattle.std.specs.List.{ContainsAt as Has}
 use Rattle.std.proofs.lemmas.List.{get_or_default, length-take-le, length-map, get_or-map}
-use Rattle.std.proofs.lemmas.Bool.{cases_Bool, both_ways, and_parts, and_from, or_cases, or_left, or_right, eqb-true, eq-eqb, ne_eqb, eqb-false, ltb-true, not_from_false, not-true}
-use Rattle.network.specs.Rows.{fanin, no_signal}
+use Rattle.std.proofs.lemmas.Bool.{cases_Bool, and_parts, and_from, or_cases, or_left, or_right, eqb-true, eq-eqb, ne_eqb, ltb-true, not_from_false}
+use Rattle.network.specs.Rows.{no_signal}
 use Rattle.network.specs.Nets.{Net, nodes, size, row_at}
 use Rattle.network.specs.declared.row.Signal.{Signal}
 use Rattle.theory.specs.Values.{Lowers}
@@ -13,7 +13,7 @@ use Rattle.context.specs.Ranks.{chosen, Ascending}
 use Rattle.context.specs.Levels.{is_fanin}
 use Rattle.context.specs.Windows.{is_leaf, leaves_of}
 use Rattle.context.specs.Extracts.{signal_of}
-use Rattle.context.proofs.Any.{any-find, any_some, any_none}
+use Rattle.context.proofs.Any.{any-find, any_some}
 use Rattle.context.proofs.Counts.{count-more, count-within}
 use Rattle.context.proofs.Ranks.{chosen-only, chosen-length}
 use Rattle.context.proofs.Levels.{fanin-find}

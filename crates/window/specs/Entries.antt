@@ -1,5 +1,5 @@
 -- Leaves that are entered into a roll.
-use Rattle.std.specs.Prelude.{◌≡◌, ℕ, ◌<◌, ◌≤◌, Bool, true, false, not, ◌&&◌, ◌||◌, List, map, length, take, nat_eq, slice_index_or}
+use Rattle.std.specs.Prelude.{◌≡◌, ℕ, ◌<◌, ◌≤◌, Bool, true, false, ◌||◌, List, map, length, take, nat_eq, slice_index_or}
 use Rattle.network.specs.Rows.{no_signal}
 use Rattle.network.specs.Nets.{Net}
 use Rattle.network.specs.declared.row.Signal.{Signal}

@@ -1,5 +1,5 @@
 -- What holds of a context that was built for node t of a network.
-use Rattle.std.specs.Prelude.{◌≡◌, ℕ, ◌+◌, ◌<◌, Bool, true, IfOk, None, vec_items, Decides, Option, Result, ◌≢◌, slice_index_or}
+use Rattle.std.specs.Prelude.{◌≡◌, ℕ, ◌+◌, Bool, true, IfOk, None, vec_items, Decides, Result, ◌≢◌, slice_index_or}
 use Rattle.network.specs.Rows.{no_signal, bit_of}
 use Rattle.network.specs.Nets.{Net, replaced}
 use Rattle.network.specs.Parts.{net_of}

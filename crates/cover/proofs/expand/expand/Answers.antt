@@ -1,6 +1,5 @@
-use Rattle.std.proofs.Common.{◌≡◌, true, false, sym, ◌∙◌, ap₂}
+use Rattle.std.proofs.Common.{◌≡◌, sym, ◌∙◌, ap₂}
 use Rattle.std.specs.List.{range_with_len}
-use Rattle.cover.specs.Cubes.{start}
 use Rattle.cover.specs.Tables.{members}
 use Rattle.cover.specs.Covers.{touches, expanded}
 use Rattle.cover.proofs.Listed.{meets-touches}

@@ -1,4 +1,3 @@
-use Rattle.std.proofs.Common.{pow_mono}
 use Rattle.cover.proofs.Claims.{lawful-agrees}
 use Rattle.cover.proofs.function.function_of.Goals as goal
 

@@ -1,10 +1,8 @@
-use Rattle.std.proofs.Common.{◌≡◌, ℕ, ◌+◌, ◌^◌, ◌<◌, ◌≤◌, true, not, ◌&&◌, length, sym, refl, ap, ◌∙◌, subst, ap₂, arith, pow_mono, rules}
+use Rattle.std.proofs.Common.{◌≡◌, ◌+◌, ◌^◌, ◌<◌, ◌≤◌, true, not, ◌&&◌, length, sym, refl, ap, ◌∙◌, subst, arith, pow_mono, rules}
 use Rattle.std.specs.List.{range_with_len}
 use Rattle.network.specs.Limits.{minterms}
 use Rattle.network.specs.Rows.{bit_of}
-use Rattle.roll.specs.Rolls.{IsRoll}
-use Rattle.roll.specs.Adding.{grown}
-use Rattle.cover.specs.Cubes.{in_cube, start, cube_below}
+use Rattle.cover.specs.Cubes.{in_cube, start}
 use Rattle.cover.specs.Tables.{members}
 use Rattle.cover.proofs.Strikes.{in-expanded, in_start}
 use Rattle.cover.proofs.Gathering.{Gathers, gathers-none, gathers-skip, gathers-added, gathers-all}

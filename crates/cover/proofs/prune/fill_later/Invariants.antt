@@ -1,4 +1,3 @@
-use Rattle.std.proofs.Common.{◌≡◌, ◌≤◌, length}
 use Rattle.cover.proofs.Pruning.{Fills}
 use Rattle.cover.proofs.prune.fill_later.Given as goal
 

@@ -1,4 +1,4 @@
-use Rattle.std.proofs.Common.{refl, arith, rules}
+use Rattle.std.proofs.Common.{refl, rules}
 use Rattle.network.specs.Rows.{Bytes}
 use Rattle.std.proofs.lemmas.Bool.{false≢true}
 use Rattle.cover.proofs.Shapes.{meets_at, meets-not}

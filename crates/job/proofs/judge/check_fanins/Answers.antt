@@ -1,6 +1,6 @@
-use Rattle.std.proofs.Common.{◌≡◌, sym, ◌∙◌, rules}
+use Rattle.std.proofs.Common.{sym, rules}
 use Rattle.std.proofs.lemmas.Result.{err_from_is_err_and}
-use Rattle.job.specs.Checks.{verdict, upto, fanin_checks}
+use Rattle.job.specs.Checks.{fanin_checks}
 use Rattle.job.proofs.Verdicts.{upto-more, upto-stop}
 use Rattle.job.proofs.judge.check_fanins.Goals as goal
 

@@ -1,6 +1,5 @@
-use Rattle.std.proofs.Common.{◌≡◌, Some, None, sym, ◌∙◌, arith, rules}
-use Rattle.std.proofs.lemmas.Bool.Decides.{nat_tests}
-use Rattle.job.specs.Checks.{verdict, upto, output_checks}
+use Rattle.std.proofs.Common.{sym, rules}
+use Rattle.job.specs.Checks.{output_checks}
 use Rattle.job.proofs.Verdicts.{upto-more, upto-stop}
 use Rattle.job.proofs.judge.check_outputs.Goals as goal
 

@@ -1,6 +1,6 @@
-use Rattle.std.proofs.Common.{◌≡◌, ◌<◌, sym, ◌∙◌, arith, rules}
+use Rattle.std.proofs.Common.{◌<◌, sym, ◌∙◌, arith}
 use Rattle.std.proofs.lemmas.Result.{err_from_is_err_and}
-use Rattle.job.specs.Checks.{verdict, upto, node_checks, nodes_of}
+use Rattle.job.specs.Checks.{node_checks, nodes_of}
 use Rattle.job.proofs.Verdicts.{upto-more, upto-stop, same-record, pair-within}
 use Rattle.job.proofs.judge.check_records.Goals as goal
 

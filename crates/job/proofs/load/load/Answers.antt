@@ -1,5 +1,4 @@
 use Rattle.std.proofs.Common.{arith}
-use Rattle.network.specs.Parts.{net_of}
 use Rattle.job.proofs.Passed.{passed}
 use Rattle.job.proofs.Loads.{all-loaded}
 use Rattle.job.proofs.load.load.Goals as goal

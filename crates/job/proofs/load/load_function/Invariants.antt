@@ -1,4 +1,4 @@
-use Rattle.std.proofs.Common.{◌≡◌, ℕ, ◌+◌, ◌*◌, ◌<◌, ◌≤◌, length, get_or}
+use Rattle.std.proofs.Common.{◌≡◌, ℕ, ◌+◌, ◌<◌, ◌≤◌, length, get_or}
 use Rattle.network.specs.Limits.{function_bytes}
 use Rattle.job.specs.Checks.{byte_at}
 use Rattle.job.proofs.load.load_function.Given as goal

@@ -1,4 +1,4 @@
-use Rattle.std.proofs.Common.{◌≡◌, ◌+◌, ◌*◌, ◌<◌, sym, ap, ◌∙◌, subst, arith}
+use Rattle.std.proofs.Common.{◌≡◌, ◌+◌, ◌*◌, ◌<◌, ap, ◌∙◌, arith}
 use Rattle.network.specs.Parts.{net_of}
 use Rattle.job.specs.Checks.{word_at, outputs_of, output_place}
 use Rattle.job.proofs.Passed.{passed}

@@ -1,8 +1,8 @@
-use Rattle.std.proofs.Common.{◌≡◌, ◌+◌, ◌<◌, None, sym, ap, ◌∙◌, subst, arith}
+use Rattle.std.proofs.Common.{◌≡◌, ◌+◌, ◌<◌, sym, subst, arith}
 use Rattle.network.specs.Nets.{nodes}
 use Rattle.network.specs.Rows.{Legal}
 use Rattle.network.specs.Parts.{net_of}
-use Rattle.job.specs.Checks.{inputs_of, nodes_of, offset_of, length_of, record_size, byte_at, record_checks, verdict}
+use Rattle.job.specs.Checks.{inputs_of, nodes_of, offset_of, length_of, record_size, byte_at}
 use Rattle.job.specs.Loads.{RowLoaded, RowsLoaded}
 use Rattle.job.proofs.Passed.{Fits, passed, record-passes}
 use Rattle.job.proofs.Loads.{rows_none, rows_more}

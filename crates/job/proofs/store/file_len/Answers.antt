@@ -1,4 +1,4 @@
-use Rattle.std.proofs.Common.{◌≡◌, length, ap, arith}
+use Rattle.std.proofs.Common.{length, ap, arith}
 use Rattle.network.specs.Parts.{net_of}
 use Rattle.job.proofs.Encoded.{length-encode}
 use Rattle.job.proofs.store.file_len.Goals as goal

@@ -1,4 +1,4 @@
-use Rattle.std.proofs.Common.{◌≡◌, List, [], ◌∷◌, length, set, refl, ap, ◌∙◌, arith, length-set}
+use Rattle.std.proofs.Common.{◌≡◌, [], ◌∷◌, set, refl, ap, ◌∙◌, arith, length-set}
 use Rattle.job.specs.Bytes.{le16, splice}
 use Rattle.job.proofs.Splices.{splice-set, splice-splice}
 use Rattle.job.proofs.store.put_counts.Goals as goal

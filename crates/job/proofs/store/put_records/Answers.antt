@@ -1,4 +1,4 @@
-use Rattle.std.proofs.Common.{◌≡◌, ℕ, ◌+◌, ◌<◌, ◌≤◌, List, length, get_or, take, sym, refl, ap, ◌∙◌, subst, add-zero, arith}
+use Rattle.std.proofs.Common.{◌≡◌, ℕ, ◌+◌, ◌<◌, ◌≤◌, List, length, get_or, take, sym, ap, ◌∙◌, subst, add-zero, arith}
 use Rattle.std.specs.List.{flat_map}
 use Rattle.std.proofs.lemmas.List.{take_all, get_or-take, length-take-le}
 use Rattle.network.specs.Limits.{max_fanins}
@@ -6,7 +6,6 @@ use Rattle.network.specs.Rows.{blank}
 use Rattle.network.specs.Nets.{Net, LegalNet}
 use Rattle.network.specs.Parts.{net_of}
 use Rattle.network.specs.declared.row.Row.{Row}
-use Rattle.job.specs.Checks.{record_size}
 use Rattle.job.specs.Bytes.{sizes, record_bytes, splice}
 use Rattle.job.proofs.Sizes.{Sound, sizes-more, record-ends}
 use Rattle.job.proofs.Encoded.{sound-of, length-records}

@@ -2,7 +2,6 @@ use Rattle.std.proofs.Common.{◌≡◌, ◌≤◌, length, get_or, take, sym, a
 use Rattle.std.proofs.lemmas.List.{take_all}
 use Rattle.network.specs.Limits.{max_fanins}
 use Rattle.network.specs.Rows.{blank}
-use Rattle.network.specs.Nets.{row_at}
 use Rattle.network.specs.Parts.{net_of}
 use Rattle.job.specs.Bytes.{sizes}
 use Rattle.job.proofs.Sizes.{sizes-more, record-most}

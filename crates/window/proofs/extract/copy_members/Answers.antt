@@ -1,11 +1,10 @@
-use Rattle.std.proofs.Common.{◌≡◌, ℕ, ◌+◌, ◌<◌, Bool, true, false, sym, refl, ap, ◌∙◌, subst, arith}
+use Rattle.std.proofs.Common.{◌≡◌, ℕ, ◌+◌, ◌<◌, Bool, true, sym, ap, ◌∙◌, arith}
 use mathlib.Core.Path.{subst⁻¹}
 use Rattle.network.specs.Limits.{max_nodes}
 use Rattle.network.specs.Rows.{Legal}
 use Rattle.network.specs.Nets.{Net, nodes, size, row_at, with_row}
 use Rattle.network.specs.Parts.{net_of}
 use Rattle.network.specs.declared.row.Row.{Row}
-use Rattle.network.specs.declared.network.Network.{Network}
 use Rattle.network.proofs.Nets.{legal-net}
 use Rattle.context.specs.Extracts.{new_of, renumber}
 use Rattle.window.specs.Sets.{has}

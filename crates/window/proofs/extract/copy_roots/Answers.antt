@@ -1,11 +1,11 @@
-use Rattle.std.proofs.Common.{◌≡◌, ℕ, ◌+◌, ◌<◌, Bool, true, false, sym, refl, ap, ◌∙◌, subst, arith}
+use Rattle.std.proofs.Common.{◌≡◌, ℕ, ◌+◌, ◌<◌, Bool, true, sym, ap, ◌∙◌, arith}
 use mathlib.Core.Path.{subst⁻¹}
 use Rattle.network.specs.Nets.{Net, size, with_output}
 use Rattle.network.specs.Parts.{net_of}
 use Rattle.network.specs.declared.row.Signal.{Signal}
 use Rattle.network.proofs.Nets.{legal-net}
 use Rattle.context.specs.Windows.{is_root}
-use Rattle.context.specs.Extracts.{new_of, signal_of}
+use Rattle.context.specs.Extracts.{signal_of}
 use Rattle.window.specs.Sets.{has}
 use Rattle.window.specs.Numbers.{new_at}
 use Rattle.window.specs.Parts.{roots_to}

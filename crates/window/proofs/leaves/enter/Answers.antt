@@ -1,4 +1,4 @@
-use Rattle.std.proofs.Common.{◌≡◌, sym, ◌∙◌}
+use Rattle.std.proofs.Common.{sym, ◌∙◌}
 use Rattle.roll.specs.declared.added.Added.TheVariants.{Entered, Present, Full}
 use Rattle.window.specs.Sets.{has}
 use Rattle.window.proofs.Entries.{enters-entered, enters-present, enters-full, rolled}

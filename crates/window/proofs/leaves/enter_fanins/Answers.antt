@@ -1,4 +1,4 @@
-use Rattle.std.proofs.Common.{◌≡◌, ℕ, ◌+◌, ◌<◌, Bool, not, ◌&&◌, ◌||◌, eqb, sym, refl, ap, ◌∙◌, arith}
+use Rattle.std.proofs.Common.{◌≡◌, ℕ, ◌<◌, not, ◌&&◌, ◌||◌, eqb, refl, ap, ◌∙◌, arith}
 use Rattle.network.specs.Rows.{fanin}
 use Rattle.context.specs.Care.{any_below}
 use Rattle.window.specs.Sets.{has}

@@ -1,4 +1,4 @@
-use Rattle.std.proofs.Common.{◌≡◌, ℕ, ◌+◌, ◌<◌, Bool, not, ◌&&◌, ◌||◌, List, sym, refl, ap, ◌∙◌, subst, arith}
+use Rattle.std.proofs.Common.{◌≡◌, ℕ, ◌+◌, ◌<◌, Bool, not, ◌&&◌, ◌||◌, sym, ap, ◌∙◌, subst, arith}
 use Rattle.network.specs.Nets.{nodes, row_at}
 use Rattle.network.specs.Parts.{net_of}
 use Rattle.network.specs.declared.row.Row.{Row}
@@ -6,7 +6,7 @@ use Rattle.network.specs.declared.row.Signal.{Signal}
 use Rattle.roll.specs.declared.roll.Roll.{Roll}
 use Rattle.context.specs.Levels.{is_fanin}
 use Rattle.window.specs.Sets.{has, feeds}
-use Rattle.window.specs.Entries.{listed, OfLeaves, entries_of, Overfull}
+use Rattle.window.specs.Entries.{listed, OfLeaves, entries_of}
 use Rattle.window.proofs.Marks.{guard-zero, guard-next, guard-skip, guard-part, guard-one}
 use Rattle.window.proofs.Entries.{overfull-more}
 use Rattle.window.proofs.leaves.enter_leaves.Goals as goal

@@ -1,11 +1,11 @@
-use Rattle.std.proofs.Common.{◌≡◌, ℕ, List, [], take, sym, refl, ap, ◌∙◌, subst}
+use Rattle.std.proofs.Common.{◌≡◌, List, [], take, ap, ◌∙◌, subst}
 use Rattle.network.specs.declared.row.Signal.{Signal}
 use Rattle.context.specs.Windows.{is_leaf}
 use Rattle.network.specs.Parts.{net_of}
 use Rattle.network.proofs.Nets.{legal-net}
 use Rattle.theory.proofs.Values.{lowers}
 use Rattle.window.specs.Sets.{has}
-use Rattle.window.specs.Entries.{listed, OfLeaves, entries_of, Overfull}
+use Rattle.window.specs.Entries.{entries_of, Overfull}
 use Rattle.window.proofs.Entries.{first, leaves-are, leaves-few, leaves-many}
 use Rattle.window.proofs.leaves.leaves.Goals as goal
 

@@ -1,4 +1,4 @@
-use Rattle.std.proofs.Common.{◌≡◌, ℕ, ◌+◌, ◌<◌, Bool, ◌&&◌, ◌||◌, sym, refl, ap, ◌∙◌, arith}
+use Rattle.std.proofs.Common.{◌≡◌, ℕ, ◌+◌, Bool, ◌&&◌, ◌||◌, sym, ap, ◌∙◌, arith}
 use Rattle.network.specs.Nets.{nodes, row_at}
 use Rattle.network.specs.Parts.{net_of}
 use Rattle.context.specs.Levels.{is_fanin}

@@ -1,4 +1,4 @@
-use Rattle.std.proofs.Common.{◌≡◌, ℕ, ◌+◌, ◌<◌, Bool, true, false, ◌&&◌, ◌||◌, eqb, sym, refl, ap, ◌∙◌, ap₂, arith}
+use Rattle.std.proofs.Common.{◌≡◌, ℕ, ◌+◌, Bool, false, ◌&&◌, ◌||◌, eqb, sym, ap, ◌∙◌, ap₂, arith}
 use Rattle.network.specs.Nets.{nodes}
 use Rattle.network.specs.Parts.{net_of}
 use Rattle.context.specs.Care.{any_below}

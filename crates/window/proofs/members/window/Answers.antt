@@ -1,4 +1,4 @@
-use Rattle.std.proofs.Common.{◌≡◌, ℕ, ◌+◌, Bool, ◌&&◌, eqb, sym, refl, ap, ◌∙◌, ap₂}
+use Rattle.std.proofs.Common.{◌≡◌, ℕ, ◌+◌, ◌&&◌, eqb, ap, ◌∙◌, ap₂}
 use Rattle.network.specs.Parts.{net_of}
 use Rattle.context.specs.Levels.{into, outof, whole}
 use Rattle.window.specs.Sets.{has}

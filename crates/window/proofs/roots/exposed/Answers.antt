@@ -1,10 +1,10 @@
-use Rattle.std.proofs.Common.{◌≡◌, ℕ, ◌+◌, ◌<◌, Bool, not, ◌&&◌, ◌||◌, List, length, get_or, sym, refl, ap, ◌∙◌, ap₂, arith}
+use Rattle.std.proofs.Common.{◌≡◌, ℕ, ◌+◌, ◌<◌, Bool, not, ◌&&◌, ◌||◌, List, length, get_or, ap, ◌∙◌, ap₂, arith}
 use Rattle.network.specs.Rows.{no_signal}
 use Rattle.network.specs.Nets.{nodes, row_at}
 use Rattle.network.specs.Parts.{net_of}
 use Rattle.network.specs.declared.row.Signal.{Signal}
 use Rattle.network.proofs.Nets.{legal-net}
-use Rattle.context.specs.Levels.{is_fanin, whole}
+use Rattle.context.specs.Levels.{is_fanin}
 use Rattle.context.proofs.Any.{any_same}
 use Rattle.context.proofs.Levels.{whole-node}
 use Rattle.window.specs.Sets.{has, feeds}

@@ -1,5 +1,4 @@
-use Rattle.std.proofs.Common.{◌≡◌, ℕ, ◌+◌, ◌<◌, ◌≤◌, Bool, true, false, ◌&&◌, ◌||◌, eqb, sym, refl, ap, ◌∙◌, ⊎_elim, arith}
-use Rattle.std.proofs.lemmas.Bool.{cases_eq, ne_eqb, eq-eqb}
+use Rattle.std.proofs.Common.{◌≡◌, ℕ, ◌+◌, ◌<◌, Bool, ◌&&◌, ◌||◌, eqb, sym, refl, ap, ◌∙◌, arith}
 use Rattle.network.specs.Rows.{fanin}
 use Rattle.network.specs.Nets.{nodes, row_at}
 use Rattle.network.specs.Parts.{net_of}
@@ -11,7 +10,6 @@ use Rattle.context.specs.Windows.{reach_of}
 use Rattle.context.proofs.Reaches.{reach-holds, reach-local}
 use Rattle.window.specs.Sets.{has}
 use Rattle.window.specs.declared.set.SignalSet.{SignalSet}
-use Rattle.window.proofs.Marks.{or_no}
 use Rattle.window.proofs.Leads.{eqb-add, led-more, led-same}
 use Rattle.window.proofs.roots.led_from.Goals as goal
 use Rattle.window.proofs.roots.led_from.Goals.{then-is_led, else-is_led}

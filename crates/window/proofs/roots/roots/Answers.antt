@@ -1,9 +1,9 @@
-use Rattle.std.proofs.Common.{◌≡◌, ℕ, ◌+◌, ◌<◌, Bool, ◌&&◌, sym, refl, ap, ◌∙◌, ap₂}
+use Rattle.std.proofs.Common.{ℕ, ◌+◌, Bool, ◌&&◌, ◌∙◌, ap₂}
 use Rattle.network.specs.Parts.{net_of}
 use Rattle.network.proofs.Nets.{legal-net}
 use Rattle.theory.proofs.Values.{lowers}
 use Rattle.context.specs.Levels.{whole}
-use Rattle.context.specs.Windows.{reach_of, is_exposed}
+use Rattle.context.specs.Windows.{is_exposed}
 use Rattle.window.specs.Sets.{has}
 use Rattle.window.proofs.Leads.{led-whole}
 use Rattle.window.proofs.roots.roots.Goals as goal

@@ -1,4 +1,4 @@
-use Rattle.std.proofs.Common.{◌≡◌, ℕ, ◌+◌, ◌<◌, false, eqb, length, get_or, sym, refl, ap, ◌∙◌, arith}
+use Rattle.std.proofs.Common.{◌≡◌, false, eqb, length, get_or, refl, ap, ◌∙◌, arith}
 use Rattle.network.specs.Rows.{no_signal}
 use Rattle.context.specs.Care.{any_below}
 use Rattle.window.specs.Sets.{has}

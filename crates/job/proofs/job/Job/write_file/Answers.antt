@@ -1,4 +1,4 @@
-use Rattle.std.proofs.Common.{◌≡◌, ◌++◌, drop, sym, ap, ◌∙◌, arith}
+use Rattle.std.proofs.Common.{◌++◌, drop, sym, ap, ◌∙◌, arith}
 use Rattle.job.specs.Bytes.{encode}
 use Rattle.job.specs.Jobs.{job_net}
 use Rattle.job.proofs.Splices.{splice_front}

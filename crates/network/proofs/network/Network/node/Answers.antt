@@ -1,6 +1,6 @@
-use Rattle.std.proofs.Common.{◌≡◌, ◌+◌, ◌≤◌, Some, None, Option, sym, ◌∙◌, subst, arith, MatchOption}
+use Rattle.std.proofs.Common.{◌≡◌, Some, None, Option, sym, ◌∙◌, subst, MatchOption}
 use Rattle.network.specs.Rows.{Legal}
-use Rattle.network.specs.Nets.{nodes, row_at}
+use Rattle.network.specs.Nets.{row_at}
 use Rattle.network.specs.Parts.{net_of, NodeIs}
 use Rattle.network.specs.declared.row.Signal.{Signal}
 use Rattle.network.specs.declared.row.Row.{Row}

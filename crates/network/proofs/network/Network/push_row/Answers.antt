@@ -1,4 +1,4 @@
-use Rattle.std.proofs.Common.{◌+◌, vec_items, sym, ◌∙◌, subst, arith}
+use Rattle.std.proofs.Common.{vec_items, sym, ◌∙◌, subst, arith}
 use Rattle.std.proofs.lemmas.Bool.{leb-false}
 use Rattle.network.specs.Rows.{Legal}
 use Rattle.network.proofs.Rows.{Pushed, pushed}

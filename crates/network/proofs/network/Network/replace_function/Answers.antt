@@ -1,6 +1,6 @@
-use Rattle.std.proofs.Common.{◌≡◌, ◌+◌, length, vec_items, sym, ap, ◌∙◌, subst, arith, rules}
+use Rattle.std.proofs.Common.{◌≡◌, length, vec_items, sym, ap, subst, arith, rules}
 use Rattle.std.proofs.lemmas.List.{length-set}
-use Rattle.network.specs.Rows.{Legal, Bytes, with_function}
+use Rattle.network.specs.Rows.{Bytes}
 use Rattle.network.proofs.Rows.{Rows, legal-of, legal-set, legal-with}
 use Rattle.network.proofs.network.Network.replace_function.Goals as goal
 

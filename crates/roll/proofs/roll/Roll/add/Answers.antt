@@ -1,6 +1,5 @@
-use Rattle.std.proofs.Common.{◌≡◌, ℕ, ◌+◌, sym, refl, ap, subst}
+use Rattle.std.proofs.Common.{◌+◌, sym, refl, ap, subst}
 use Rattle.roll.specs.Rolls.{IsRoll}
-use Rattle.roll.specs.Adding.{grown}
 use Rattle.roll.proofs.Adds.{adds-roll}
 use Rattle.roll.proofs.Rising.{rising-distinct}
 use Rattle.roll.proofs.roll.Roll.add.Goals as goal

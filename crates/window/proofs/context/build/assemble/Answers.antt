@@ -1,12 +1,10 @@
-use Rattle.std.proofs.Common.{◌≡◌, ℕ, ◌+◌, ◌-◌, ◌<◌, ◌≤◌, Bool, List, length, vec_items, vec_len, sym, refl, ap, ◌∙◌, arith}
-use mathlib.Core.Path.{subst⁻¹}
-use Rattle.std.proofs.lemmas.List.{length-map}
-use Rattle.network.specs.Nets.{Net, nodes, size}
+use Rattle.std.proofs.Common.{◌≡◌, ℕ, ◌+◌, ◌<◌, Bool, length, vec_items, sym, ap, ◌∙◌, arith}
+use Rattle.network.specs.Nets.{Net, nodes}
 use Rattle.network.specs.Parts.{net_of}
 use Rattle.network.specs.declared.row.Signal.{Signal}
 use Rattle.context.specs.Windows.{leaves_of}
-use Rattle.context.specs.Extracts.{new_of, place_of, extract_of, signal_of}
-use Rattle.context.proofs.Made.{extract-is, extract-place, extract-number}
+use Rattle.context.specs.Extracts.{place_of, extract_of}
+use Rattle.context.proofs.Made.{extract-is, extract-place}
 use Rattle.window.specs.Sets.{has}
 use Rattle.window.specs.Numbers.{new_at}
 use Rattle.window.proofs.Built.{leaf-count, target-new}

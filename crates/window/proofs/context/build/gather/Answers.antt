@@ -1,11 +1,10 @@
-use Rattle.std.proofs.Common.{◌≡◌, ℕ, ◌≤◌, Bool, length, vec_items, sym, refl, ap, ◌∙◌, subst, MatchResult}
+use Rattle.std.proofs.Common.{◌≡◌, ℕ, Bool, sym, subst}
 use Rattle.network.specs.Parts.{net_of}
-use Rattle.context.specs.Windows.{Members, leaves_of}
-use Rattle.window.specs.Limits.{max_leaves}
+use Rattle.context.specs.Windows.{Members}
 use Rattle.window.specs.Sets.{has}
 use Rattle.window.specs.Scopes.{member_of}
-use Rattle.window.specs.Entries.{NoLeaves, FoundLeaves}
-use Rattle.window.specs.Contexts.{IsContext, Gathers}
+use Rattle.window.specs.Entries.{NoLeaves}
+use Rattle.window.specs.Contexts.{Gathers}
 use Rattle.window.proofs.Functions.{same_set}
 use Rattle.window.proofs.Built.{scope-members, gathered, handed}
 use Rattle.window.proofs.context.build.gather.Goals as goal

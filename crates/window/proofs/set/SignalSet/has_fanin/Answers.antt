@@ -1,4 +1,4 @@
-use Rattle.std.proofs.Common.{◌≡◌, ℕ, ◌<◌, sym, ◌∙◌, arith}
+use Rattle.std.proofs.Common.{sym, ◌∙◌, arith}
 use Rattle.network.specs.Rows.{fanin}
 use Rattle.context.proofs.Any.{any_some, any-never}
 use Rattle.window.specs.Sets.{has}

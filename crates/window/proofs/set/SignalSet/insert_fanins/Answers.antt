@@ -1,4 +1,4 @@
-use Rattle.std.proofs.Common.{◌≡◌, ℕ, ◌<◌, eqb, sym, refl, ◌∙◌}
+use Rattle.std.proofs.Common.{ℕ, eqb, refl, ◌∙◌}
 use Rattle.network.specs.Rows.{fanin}
 use Rattle.window.specs.Sets.{has}
 use Rattle.window.proofs.Marks.{any-zero, mark-next}
