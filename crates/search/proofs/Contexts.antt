@@ -10,7 +10,7 @@ use Rattle.network.specs.declared.row.Signal.{Signal}
 use Rattle.network.specs.declared.network.Network.{Network}
 use Rattle.network.proofs.Nets.{legal-net}
 use Rattle.logic.specs.Limits.{max_signals}
-use Rattle.window.specs.declared.context.Context.{Context}
+use Rattle.window.specs.declared.extracted.Context.{Context}
 use Rattle.search.specs.Contexts.{net_in}
 use Rattle.search.specs.Lanes.{Within}
 

@@ -4,7 +4,7 @@ use Rattle.network.specs.Rows.{bit_at}
 use Rattle.theory.specs.Values.{number}
 use Rattle.theory.proofs.Numbers.{bit-number}
 use Rattle.context.proofs.Dull.{dull-same}
-use Rattle.window.specs.declared.context.Context.{Context}
+use Rattle.window.specs.declared.extracted.Context.{Context}
 use Rattle.search.specs.Contexts.{net_in, dull_of, dull_at}
 use Rattle.search.specs.Lists.{has}
 use Rattle.search.specs.Lanes.{Lowest}

@@ -6,7 +6,7 @@ use Rattle.theory.specs.Values.{target}
 use Rattle.logic.specs.Sets.{is_in}
 use Rattle.logic.specs.Lanes.{LaneRow, Admit}
 use Rattle.logic.specs.Walks.{walked, WalkedWhere, AdmitWhere}
-use Rattle.window.specs.declared.context.Context.{Context}
+use Rattle.window.specs.declared.extracted.Context.{Context}
 use Rattle.search.specs.Contexts.{net_in}
 use Rattle.search.specs.Plans.{Plans}
 use Rattle.search.specs.Lanes.{Shown, Valued}

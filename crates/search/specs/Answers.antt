@@ -1,6 +1,6 @@
 -- The answers of a look: their numbers, and up to where each has settled the assignments.
 use Rattle.std.specs.Prelude.{ℕ}
-use Rattle.window.specs.declared.context.Context.{Context}
+use Rattle.window.specs.declared.extracted.Context.{Context}
 use Rattle.search.specs.Contexts.{space}
 use Rattle.search.specs.declared.answer.Answer.{Answer}
 use Rattle.search.specs.declared.answer.Answer.TheVariants.{Found, Spent, Exhausted}

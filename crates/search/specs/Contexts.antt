@@ -4,7 +4,7 @@ use Rattle.network.specs.Rows.{bit_at}
 use Rattle.network.specs.Nets.{Net}
 use Rattle.network.specs.Parts.{net_of}
 use Rattle.context.specs.Care.{dull}
-use Rattle.window.specs.declared.context.Context.{Context}
+use Rattle.window.specs.declared.extracted.Context.{Context}
 use Rattle.search.specs.Lists.{has}
 use Rattle.search.specs.declared.listed.Listed.{Listed}
 

@@ -1,6 +1,6 @@
 -- The counting finder.
 use Rattle.std.specs.Prelude.{◌≡◌, ℕ, ◌+◌, ◌<◌, ◌≤◌, false}
-use Rattle.window.specs.declared.context.Context.{Context}
+use Rattle.window.specs.declared.extracted.Context.{Context}
 use Rattle.search.specs.Contexts.{space, dull_at, DullIn}
 use Rattle.search.specs.declared.listed.Listed.{Listed}
 use Rattle.search.specs.declared.answer.Answer.{Answer}

@@ -7,7 +7,7 @@ use Rattle.network.specs.declared.row.Row.{Row}
 use Rattle.theory.specs.Values.{target}
 use Rattle.logic.specs.Lanes.{LaneRow}
 use Rattle.logic.specs.Walks.{walked, signal_row}
-use Rattle.window.specs.declared.context.Context.{Context}
+use Rattle.window.specs.declared.extracted.Context.{Context}
 use Rattle.search.specs.Contexts.{net_in}
 
 -- each of the signals is below n

@@ -8,7 +8,7 @@ use Rattle.logic.specs.Sets.{Closed}
 use Rattle.logic.specs.Depends.{Marked}
 use Rattle.window.specs.Sets.{has}
 use Rattle.window.specs.declared.set.SignalSet.{SignalSet}
-use Rattle.window.specs.declared.context.Context.{Context}
+use Rattle.window.specs.declared.extracted.Context.{Context}
 use Rattle.search.specs.Contexts.{net_in}
 use Rattle.search.specs.declared.plan.Plan.{Plan}
 

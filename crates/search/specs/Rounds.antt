@@ -3,7 +3,7 @@ use Rattle.std.specs.Prelude.{ℕ, Bool, List, Option, slice_index}
 use Rattle.network.specs.Rows.{bit_at}
 use Rattle.theory.specs.Values.{number}
 use Rattle.logic.specs.Limits.{word_bits}
-use Rattle.window.specs.declared.context.Context.{Context}
+use Rattle.window.specs.declared.extracted.Context.{Context}
 use Rattle.search.specs.Contexts.{net_in, dull_at}
 use Rattle.search.specs.Lanes.{Lowest}
 use Rattle.search.specs.declared.listed.Listed.{Listed}

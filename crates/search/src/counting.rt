@@ -13,7 +13,7 @@ use crate::single::is_dull;
 use logic::limits::MAX_SIGNALS;
 use network::limits::MINTERMS;
 use network::row::Assignment;
-use window::context::Context;
+use window::extracted::Context;
 
 /// Goes upward from "from", and settles dull assignments one by one.
 #[derive(Clone, Copy)]

@@ -1,13 +1,13 @@
 //! What a finder is.
 ghost use Rattle.std.specs.Prelude.{ℕ};
-ghost use Rattle.window.specs.declared.context.Context.{Context};
+ghost use Rattle.window.specs.declared.extracted.Context.{Context};
 ghost use Rattle.search.specs.Rules.{Rules};
 ghost use Rattle.search.specs.declared.listed.Listed.{Listed};
 ghost use Rattle.search.specs.declared.answer.Answer.{Answer};
 
 use crate::answer::Answer;
 use crate::listed::Listed;
-use window::context::Context;
+use window::extracted::Context;
 
 /// Looks for an assignment that is not dull. Each look keeps the finder rules, whatever the finder
 /// remembers from before; it refuses nothing.

@@ -13,7 +13,7 @@ ghost use Rattle.search.specs.Lanes.{Within, AdmitEach, AdmitFanins, Shown, Lowe
 use crate::listed::Listed;
 use logic::logic::Exact;
 use network::row::{Minterm, Row, Signal};
-use window::context::Context;
+use window::extracted::Context;
 
 /// Whether some root differs in a lane.
 fn differs<E: Exact>(roots: &[Signal], lane: usize, plain: &[E::Value], turned: &[E::Value]) -> bool

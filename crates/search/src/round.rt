@@ -14,7 +14,7 @@ use logic::logic::Exact;
 use logic::words::Words;
 use network::limits::MINTERMS;
 use network::row::Assignment;
-use window::context::Context;
+use window::extracted::Context;
 
 /// The lowest lane whose assignment is not dull, if there is one, where bit l of word i is the value of
 /// leaf i in lane l.

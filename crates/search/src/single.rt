@@ -18,7 +18,7 @@ use logic::limits::MAX_SIGNALS;
 use logic::walk::walk;
 use network::limits::MINTERMS;
 use network::row::{Assignment, Minterm};
-use window::context::Context;
+use window::extracted::Context;
 
 /// The minterm that the target's fanins read under an assignment of the leaves.
 pub fn reads_at(context: &Context, at: Assignment) -> Minterm

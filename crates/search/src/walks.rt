@@ -10,7 +10,7 @@ ghost use Rattle.search.specs.Lanes.{Shown, Valued};
 use crate::plan::Plan;
 use logic::logic::Logic;
 use logic::turned::walk_both;
-use window::context::Context;
+use window::extracted::Context;
 
 /// Both walks, from the leaves' values in the first places of `plain`. Only what matters to the target or
 /// to a root is valued, and only what depends on the target is valued twice.

@@ -9,7 +9,7 @@ use network::network::Network;
 use network::row::{Assignment, Signal};
 use std::alloc::{AllocError, Global};
 use std::collections::BTreeMap;
-use window::context::Context;
+use window::extracted::Context;
 use window::scope::Scope;
 
 #[derive(Drop)]

@@ -2,7 +2,7 @@
 use crate::text::hex;
 use network::row::{Row, Signal};
 use std::alloc::{AllocError, Global};
-use window::context::Context;
+use window::extracted::Context;
 
 /// Signals, parted by commas; `-` for none.
 fn signals(heap: Global, all: &[Signal]) -> Result<String, AllocError> {

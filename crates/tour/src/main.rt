@@ -9,7 +9,7 @@ use network::network::Network;
 use network::row::{Assignment, Minterm, Row, Signal};
 use std::alloc::Global;
 use std::io::Read;
-use window::context::Context;
+use window::extracted::Context;
 use window::scope::Scope;
 
 /// The function's bits, the one at the highest minterm first.

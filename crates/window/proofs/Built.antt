@@ -27,7 +27,7 @@ use Rattle.window.specs.Contexts.{too_many, refusal_of, IsContext, Gathers, Buil
 use Rattle.window.specs.Laws.{ByPaths, OfContext, leaf_bits, SameValues, SameInverted, FreeExactly, FreeSoundly, FreeInWhole, OwnFunction, Safe, Harmful}
 use Rattle.window.specs.declared.scope.Scope.{Scope}
 use Rattle.window.specs.declared.scope.Scope.TheVariants.{Whole, Window}
-use Rattle.window.specs.declared.context.Context.{Context}
+use Rattle.window.specs.declared.extracted.Context.{Context}
 use Rattle.window.specs.declared.refusal.ContextError.{ContextError}
 use Rattle.window.specs.declared.refusal.ContextError.TheVariants.{NoNode, Level, Leaves, NoMemory}
 use Rattle.window.proofs.Functions.{same_set}

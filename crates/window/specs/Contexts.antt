@@ -9,7 +9,7 @@ use Rattle.window.specs.Refusals.{number_of}
 use Rattle.window.specs.Scopes.{too_high, member_of}
 use Rattle.window.specs.Entries.{leaf_signals, NoLeaves}
 use Rattle.window.specs.declared.scope.Scope.{Scope}
-use Rattle.window.specs.declared.context.Context.{Context}
+use Rattle.window.specs.declared.extracted.Context.{Context}
 use Rattle.window.specs.declared.refusal.ContextError.{ContextError}
 use Rattle.window.specs.declared.refusal.ContextError.TheVariants.{NoNode, Level, Leaves}
 

@@ -13,7 +13,7 @@ use Rattle.window.specs.Scopes.{member_of}
 use Rattle.window.specs.Contexts.{IsContext}
 use Rattle.window.specs.declared.scope.Scope.{Scope}
 use Rattle.window.specs.declared.scope.Scope.TheVariants.{Whole, Window}
-use Rattle.window.specs.declared.context.Context.{Context}
+use Rattle.window.specs.declared.extracted.Context.{Context}
 use Rattle.window.specs.declared.refusal.ContextError.{ContextError}
 
 -- the members of a window are the nodes that paths make its members

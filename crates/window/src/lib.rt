@@ -1,8 +1,8 @@
 //! Contexts: what an examination of a node looks at, extracted as a network of its own.
 #![tactic(auto)]
 
-pub mod context;
 mod extract;
+pub mod extracted;
 mod leaves;
 mod levels;
 pub mod limits;

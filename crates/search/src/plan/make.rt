@@ -8,7 +8,7 @@ ghost use Rattle.search.specs.Plans.{Needs, Plans};
 use super::Plan;
 use logic::dependents::mark_dependents;
 use logic::limits::MAX_SIGNALS;
-use window::context::Context;
+use window::extracted::Context;
 use window::nodes::{node_row, node_signal};
 use window::set::SignalSet;
 

@@ -7,7 +7,7 @@ use Rattle.window.specs.Entries.{NoLeaves}
 use Rattle.window.specs.Contexts.{Gathers}
 use Rattle.window.proofs.Functions.{same_set}
 use Rattle.window.proofs.Built.{scope-members, gathered, handed}
-use Rattle.window.proofs.context.build.gather.Goals as goal
+use Rattle.window.proofs.extracted.build.gather.Goals as goal
 
 pub returns-in_err-leaves : goal.returns-in_err-leaves
 returns-in_err-leaves c =

@@ -1,7 +1,7 @@
 use Rattle.network.specs.Parts.{net_of}
 use Rattle.network.proofs.Nets.{legal-net}
 use Rattle.window.proofs.Built.{by-paths, built-so, same-values, same-inverted, free-exactly, free-soundly, free-in-whole, own-function, safe-so, harmful}
-use Rattle.window.proofs.context.Context.build.Goals as goal
+use Rattle.window.proofs.extracted.Context.build.Goals as goal
 
 pub returns : goal.returns
 returns c =

@@ -3,7 +3,7 @@ use Rattle.std.proofs.lemmas.Bool.{ltb-true}
 use Rattle.network.specs.Nets.{nodes}
 use Rattle.network.specs.Parts.{net_of}
 use Rattle.window.proofs.Built.{judged}
-use Rattle.window.proofs.context.build.judge.Goals as goal
+use Rattle.window.proofs.extracted.build.judge.Goals as goal
 
 pub returns : goal.returns
 returns c =

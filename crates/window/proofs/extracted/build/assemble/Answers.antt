@@ -8,7 +8,7 @@ use Rattle.context.proofs.Made.{extract-is, extract-place}
 use Rattle.window.specs.Sets.{has}
 use Rattle.window.specs.Numbers.{new_at}
 use Rattle.window.proofs.Built.{leaf-count, target-new}
-use Rattle.window.proofs.context.build.assemble.Goals as goal
+use Rattle.window.proofs.extracted.build.assemble.Goals as goal
 
 pub number-numbers-requires : goal.number-numbers-requires
 number-numbers-requires c =
