@@ -8,5 +8,7 @@ pub mod Builds
 pub mod Walks
 pub mod Depends
 pub mod Turns
+pub mod Wheres
+pub mod Again
 pub mod Outputs
 pub mod TritLaws

@@ -16,7 +16,7 @@ use Rattle.logic.proofs.Fronts.{Front, over-at}
 use Rattle.logic.proofs.Builds as builds
 
 module _ {V : Type 0} (pick : V → V → V → V) (of : Bool → V) (turn : Option ℕ) where
-  local : builds.Local (node_step pick of turn)
+  pub local : builds.Local (node_step pick of turn)
   local s r v w h = ap (turned_of pick of (turns turn s)) (node-same pick of r v w h)
 
   module _ (net : Net) (low : Lowers net) (leaves : List V) (long : length leaves ≡ net.inputs) where

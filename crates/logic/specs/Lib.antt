@@ -4,6 +4,7 @@ pub mod Words
 pub mod Bits
 pub mod Trits
 pub mod Folds
+pub mod Sets
 pub mod Walks
 pub mod Depends
 pub mod Digits

@@ -1,11 +1,12 @@
 -- What a logic, given by its pick and its constants, makes of a network.
-use Rattle.std.specs.Prelude.{ℕ, Bool, false, List, ◌++◌, length, take, drop, Some, None, Option}
+use Rattle.std.specs.Prelude.{◌≡◌, ℕ, ◌<◌, Bool, true, false, List, ◌++◌, length, take, drop, Some, None, Option, slice_index_or}
 use Rattle.network.specs.Nets.{Net, size}
 use Rattle.network.specs.declared.row.Row.{Row}
 use Rattle.network.specs.declared.row.Signal.{Signal}
 use Rattle.theory.specs.Values.{turns, built, value}
 use Rattle.logic.specs.Lanes.{LaneRow, Admit}
 use Rattle.logic.specs.Folds.{node_of, turned_of}
+use Rattle.logic.specs.Sets.{is_in}
 
 -- the signal to invert, as a number
 abbrev pub turn_of : Option Signal → Option ℕ
@@ -35,3 +36,12 @@ signal_row turn net rows s l = value turn net (λ i. rows i l) s
 -- whatever rows the leaves' values admit, every value admits the row of its signal's values
 abbrev pub AdmitSignals : {V : Type 0} → (V → LaneRow → Type 0) → Option ℕ → Net → List V → List V → Type 0
 AdmitSignals admits turn net leaves vs = (rows : ℕ → LaneRow) → Admit admits leaves net.inputs rows → Admit admits vs (size net) (signal_row turn net rows)
+
+-- at each of the first n places that is in the set, vs has the value of ws
+abbrev pub WalkedWhere : {V : Type 0} → List Bool → ℕ → List V → List V → Type 0
+WalkedWhere {V} set n ws vs = (s : ℕ) (d : V) → s < n → is_in set s ≡ true → slice_index_or vs s d ≡ slice_index_or ws s d
+
+-- whatever rows the leaves' values admit, every value in the set admits the row of its signal's values
+abbrev pub AdmitWhere : {V : Type 0} → List Bool → (V → LaneRow → Type 0) → Option ℕ → Net → List V → List V → Type 0
+AdmitWhere {V} set admits turn net leaves vs =
+    (rows : ℕ → LaneRow) → Admit admits leaves net.inputs rows → (s : ℕ) (d : V) → s < size net → is_in set s ≡ true → admits (slice_index_or vs s d) (signal_row turn net rows s)

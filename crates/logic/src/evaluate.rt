@@ -25,7 +25,7 @@ fn bit(x: Assignment, i: usize) -> bool
 }
 
 /// Puts the bits of an assignment as the leaves' values.
-fn put_bits(x: Assignment, count: usize, values: &mut [bool])
+pub fn put_bits(x: Assignment, count: usize, values: &mut [bool])
     requires few { count ≤ word_bits }
     requires room { count ≤ length values.old }
     ensures { values.new ≡ over (map (bit_at x.0) (range_with_len 0 count)) values.old }

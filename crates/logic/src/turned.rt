@@ -17,7 +17,7 @@ use network::network::Network;
 use network::row::Row;
 
 /// The value of a node: made from the values if it is marked, else the same as before.
-fn value_again<L: Logic>(
+pub(crate) fn value_again<L: Logic>(
     row: &Row,
     marked: bool,
     before: L::Value,
@@ -38,7 +38,7 @@ fn value_again<L: Logic>(
 }
 
 /// Copies the values below a signal, and puts the other value at the signal.
-fn put_inverted<L: Logic>(at: usize, plain: &[L::Value], turned: &mut [L::Value])
+pub(crate) fn put_inverted<L: Logic>(at: usize, plain: &[L::Value], turned: &mut [L::Value])
     requires first { at < length plain.now }
     requires second { at < length turned.old }
     ensures { (d : L.Value) → turned.new ≡ slice_set (over (take at plain.now) turned.old) at (inverse_of L.Logic.picks L.Logic.constants (slice_index_or plain.now at d)) }

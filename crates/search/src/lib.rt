@@ -1,5 +1,6 @@
 //! The search for a care minterm that is not listed yet.
 #![tactic(auto)]
+
 pub mod answer;
 pub mod counting;
 pub mod finder;

@@ -9,7 +9,7 @@ ghost use Rattle.search.specs.Lanes.{Shown, Valued};
 
 use crate::plan::Plan;
 use logic::logic::Logic;
-use logic::turned::walk_both;
+use logic::needed::walk_needed;
 use window::extracted::Context;
 
 /// Both walks, from the leaves' values in the first places of `plain`. Only what matters to the target or
@@ -28,7 +28,7 @@ pub fn walk_context<L: Logic>(
     ensures values { Valued L.Logic.picks L.Logic.constants context.now (take (net_in context.now).inputs plain.old) plain.new turned.new }
     ensures shown { (rows : ℕ → LaneRow) → Admit L.Logic.admits plain.old (net_in context.now).inputs rows → Shown L.Logic.admits context.now rows plain.new turned.new }
 {
-    walk_both::<L>(
+    walk_needed::<L>(
         context.network(),
         context.target(),
         plan.needed(),

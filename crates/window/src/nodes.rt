@@ -9,7 +9,7 @@ use network::network::Network;
 use network::row::{Row, Signal};
 
 /// How many nodes there are.
-pub fn node_count(network: &Network) -> usize
+pub(crate) fn node_count(network: &Network) -> usize
     ensures value { result ≡ nodes (net_of network.now) }
     ensures few { result ≤ max_nodes }
     ensures inputs { (net_of network.now).inputs ≤ max_inputs }
@@ -18,7 +18,7 @@ pub fn node_count(network: &Network) -> usize
 }
 
 /// Whether there is such a node.
-pub fn is_node(network: &Network, n: usize) -> bool
+pub(crate) fn is_node(network: &Network, n: usize) -> bool
     ensures { result ≡ nat_lt n (nodes (net_of network.now)) }
 {
     n < node_count(network)

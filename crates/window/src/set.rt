@@ -1,5 +1,5 @@
 //! Sets of signals.
-ghost use Rattle.std.specs.Prelude.{◌≡◌, ℕ, ◌<◌, ◌≤◌, Bool, true, false, ◌||◌, ◌==◌};
+ghost use Rattle.std.specs.Prelude.{◌≡◌, ℕ, ◌<◌, ◌≤◌, Bool, true, false, ◌||◌, length, ◌==◌};
 ghost use Rattle.network.specs.Limits.{max_fanins};
 ghost use Rattle.network.specs.Rows.{fanin};
 ghost use Rattle.context.specs.Care.{any_below};
@@ -36,6 +36,14 @@ impl SignalSet {
         self.flags[signal.0 as usize]
     }
 
+    /// A flag for each number that a signal can have.
+    pub fn flags(&self) -> &[bool]
+        ensures value { result.now ≡ self.now.flags }
+        ensures count { length result.now ≡ max_signals }
+    {
+        &self.flags
+    }
+
     /// One signal more.
     pub fn insert(&mut self, signal: Signal)
         requires { signal.0 < max_signals }
@@ -56,7 +64,7 @@ impl SignalSet {
     }
 
     /// Whether some fanin of the row is in the set.
-    pub fn has_fanin(&self, row: &Row) -> bool
+    pub(crate) fn has_fanin(&self, row: &Row) -> bool
         requires { row.now.count ≤ max_fanins }
         ensures { result ≡ any_below row.now.count (λ i. has self.now (fanin row.now i)) }
     {

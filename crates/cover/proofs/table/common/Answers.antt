@@ -1,6 +1,6 @@
 use Rattle.std.proofs.Common.{◌&&◌, get_or, arith}
 use lib.Bits.{bit_and}
-use Rattle.cover.proofs.Bits.{bit-and}
+use Rattle.network.proofs.Bits.{bit-and}
 use Rattle.cover.proofs.Bytes.{merged-set}
 use Rattle.cover.proofs.table.common.Goals as goal
 

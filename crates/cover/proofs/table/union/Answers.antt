@@ -1,6 +1,6 @@
 use Rattle.std.proofs.Common.{◌||◌, get_or, arith}
 use lib.Bits.{bit_or}
-use Rattle.cover.proofs.Bits.{bit-or}
+use Rattle.network.proofs.Bits.{bit-or}
 use Rattle.cover.proofs.Bytes.{merged-set}
 use Rattle.cover.proofs.table.union.Goals as goal
 

@@ -1,7 +1,8 @@
 use Rattle.std.proofs.Common.{◌-◌, not, ◌&&◌, get_or, ap, ◌∙◌, arith, rules}
 use lib.Bits.{bit_and}
 use Rattle.network.specs.Rows.{bit_at, Bytes}
-use Rattle.cover.proofs.Bits.{bit-and, bit_not}
+use Rattle.network.proofs.Bits.{bit-and}
+use Rattle.cover.proofs.Bits.{bit_not}
 use Rattle.cover.proofs.Bytes.{merged-set}
 use Rattle.cover.proofs.table.without.Goals as goal
 

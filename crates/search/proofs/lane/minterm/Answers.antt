@@ -28,8 +28,8 @@ pub loop-i-init : goal.loop-i-init
 unfolding number
 loop-i-init g c = (omega arith, λ a all. refl)
 
-pub overflow-add-y : goal.overflow-add-y
-overflow-add-y g c =
+pub overflow_add-y : goal.overflow_add-y
+overflow_add-y g c =
     let i : ℕ = c.loop-i.i in
     let few : i < 8 = omega (arith, c.loop-i-test.true, c.requires.few) in
     let lt : i < 16 = omega arith in

@@ -13,8 +13,8 @@ pub loop-i-init : goal.loop-i-init
 unfolding number
 loop-i-init c = (omega arith, refl)
 
-pub overflow-add-at : goal.overflow-add-at
-overflow-add-at c =
+pub overflow_add-at : goal.overflow_add-at
+overflow_add-at c =
     let i : ℕ = c.loop-i.i in
     let few : i < 32 = omega (arith, c.loop-i-test.true, c.network.ensures.few) in
     let lt : i < 64 = omega arith in

@@ -16,9 +16,9 @@ returns c =
     let l = c.args.listed.now in
     let ws = c.args.words.now in
     let rows : ℕ → LaneRow = λ i lane. bit_at (get_or ws i 0) lane in
-    let leaves : Admit word_admits c.put-front.new.values (net_in x).inputs rows =
+    let leaves : Admit word_admits c.put_front.new.values (net_in x).inputs rows =
     λ i d h lane b.
     let lt : i < length ws = omega (arith, c.requires.enough) in
-    ap (λ v. bit_at v lane) (ap (λ (vs : List ℕ). get_or vs i d) c.put-front.ensures ∙ over-at ws _ i d lt ∙ get_or_default ws i d 0 lt) in
-    lowest-same word_bits (λ lane. dull_of x l (λ i. rows i lane)) (λ lane. dull_at x l (lane_at x ws lane)) c.lowest-lane.result (dull-lane x l ws)
-    (c.lowest-lane.ensures rows (c.walk-context.ensures.shown rows leaves))
+    ap (λ v. bit_at v lane) (ap (λ (vs : List ℕ). get_or vs i d) c.put_front.ensures ∙ over-at ws _ i d lt ∙ get_or_default ws i d 0 lt) in
+    lowest-same word_bits (λ lane. dull_of x l (λ i. rows i lane)) (λ lane. dull_at x l (lane_at x ws lane)) c.lowest_lane.result (dull-lane x l ws)
+    (c.lowest_lane.ensures rows (c.walk_context.ensures.shown rows leaves))

@@ -14,8 +14,8 @@ use Rattle.search.specs.Lanes.{AdmitFanins}
 use Rattle.search.proofs.Contexts.{legal-in, size-most, target_row, target-few, target-lower}
 use Rattle.search.proofs.single.reads_at.Goals as goal
 
-pub put-bits-requires : goal.put-bits-requires
-put-bits-requires c = record { few = omega (arith, c.network-network.ensures.few); room = omega (arith, c.network-network.ensures.few) }
+pub put_bits-requires : goal.put_bits-requires
+put_bits-requires c = record { few = omega (arith, c.network-network.ensures.few); room = omega (arith, c.network-network.ensures.few) }
 
 pub walk-requires : goal.walk-requires
 walk-requires c =
@@ -40,11 +40,11 @@ returns c =
     let row = target_row x c.rows-rows.result.now c.target.result rows c.target.ensures.value in
     let lane : ℕ → LaneRow = λ i l. bit_at a i in
     let few : c.inputs.result ≡ net.inputs = c.inputs.ensures ∙ ap (λ n. (net_of n).inputs) c.network-network.ensures.value in
-    let leaves : Admit bit_admits c.put-bits.new.values net.inputs lane =
+    let leaves : Admit bit_admits c.put_bits.new.values net.inputs lane =
     λ i d h.
     let l : i < c.inputs.result = omega arith in
-    ap (λ (vs : List Bool). get_or vs i d) c.put-bits.ensures ∙ counted-at (bit_at a) c.inputs.result _ i d l in
-    let walked : AdmitSignals bit_admits None net c.put-bits.new.values c.walk.new.values = subst (λ (n : Net). AdmitSignals bit_admits None n c.put-bits.new.values c.walk.new.values) same c.walk.ensures.admits in
+    ap (λ (vs : List Bool). get_or vs i d) c.put_bits.ensures ∙ counted-at (bit_at a) c.inputs.result _ i d l in
+    let walked : AdmitSignals bit_admits None net c.put_bits.new.values c.walk.new.values = subst (λ (n : Net). AdmitSignals bit_admits None n c.put_bits.new.values c.walk.new.values) same c.walk.ensures.admits in
     let read : c.minterm.result.0 ≡ minterm_at net x.target (bit_at a) =
     subst (λ (q : Row). (r : ℕ → LaneRow) → AdmitFanins bit_admits q c.walk.new.values r → c.minterm.result.0 ≡ reads q (λ s. r s 0)) row c.minterm.ensures (signal_row None net lane)
     (λ i d h. walked lane leaves (fanin (row_at net x.target) i) d (target-lower x (row_at net x.target) (size net) refl (let le : size net ≤ size net = omega arith in le) i h)) in

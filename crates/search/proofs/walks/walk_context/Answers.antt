@@ -11,8 +11,8 @@ use Rattle.search.proofs.Contexts.{size-most}
 use Rattle.search.proofs.Valued.{valued_by, shown_by}
 use Rattle.search.proofs.walks.walk_context.Goals as goal
 
-pub walk-both-requires : goal.walk-both-requires
-walk-both-requires g c =
+pub walk_needed-requires : goal.walk_needed-requires
+walk_needed-requires g c =
     let x = c.args.context.now in
     let p = c.args.plan.now in
     let same : net_of c.network.result.now ≡ net_in x = ap net_of c.network.ensures.value in
@@ -40,13 +40,13 @@ returns g c =
     let of = g.L.Logic.constants in
     let admits = g.L.Logic.admits in
     let leaves = c.args.plain.now in
-    let plain = c.walk-both.new.plain in
-    let turned = c.walk-both.new.turned in
+    let plain = c.walk_needed.new.plain in
+    let turned = c.walk_needed.new.turned in
     let needed : fs ≡ p.needed.flags = c.needed.ensures.value in
-    let one = subst (λ (n : Net). WalkedWhere fs (size n) (walked pick of None n.rows (take n.inputs leaves)) plain) same c.walk-both.ensures.plain in
-    let two = subst (λ (n : Net). WalkedWhere fs (size n) (walked pick of (target n c.target.result) n.rows (take n.inputs leaves)) turned) same c.walk-both.ensures.turned in
-    let three = subst (λ (n : Net). AdmitWhere fs admits None n leaves plain) same c.walk-both.ensures.admits in
-    let four = subst (λ (n : Net). AdmitWhere fs admits (target n c.target.result) n leaves turned) same c.walk-both.ensures.inverted in
+    let one = subst (λ (n : Net). WalkedWhere fs (size n) (walked pick of None n.rows (take n.inputs leaves)) plain) same c.walk_needed.ensures.plain in
+    let two = subst (λ (n : Net). WalkedWhere fs (size n) (walked pick of (target n c.target.result) n.rows (take n.inputs leaves)) turned) same c.walk_needed.ensures.turned in
+    let three = subst (λ (n : Net). AdmitWhere fs admits None n leaves plain) same c.walk_needed.ensures.admits in
+    let four = subst (λ (n : Net). AdmitWhere fs admits (target n c.target.result) n leaves turned) same c.walk_needed.ensures.inverted in
     let given = take (net_in x).inputs leaves in
     record {
       values = valued_by x p c.requires.plan pick of given plain turned

@@ -14,8 +14,8 @@ use Rattle.search.proofs.plan.make.seeds.Goals as goal
 pub loop-root-init : goal.loop-root-init
 loop-root-init c = λ s.
     let net = net_in c.args.context.now in
-    let e : c.node-signal.result.0 ≡ net.inputs + c.args.context.now.target = c.node-signal.ensures.value ∙ ap₂ (λ (n : Network) (t : ℕ). (net_of n).inputs + t) c.network-network.ensures.value c.target.ensures.value in
-    first-in c.empty-set.result c.insert.new.self c.node-signal.result.0 (net.inputs + c.args.context.now.target) s (λ j. eqb (output_at net j) s) e (c.empty-set.ensures s) (c.insert.ensures s)
+    let e : c.node_signal.result.0 ≡ net.inputs + c.args.context.now.target = c.node_signal.ensures.value ∙ ap₂ (λ (n : Network) (t : ℕ). (net_of n).inputs + t) c.network-network.ensures.value c.target.ensures.value in
+    first-in c.empty-set.result c.insert.new.self c.node_signal.result.0 (net.inputs + c.args.context.now.target) s (λ j. eqb (output_at net j) s) e (c.empty-set.ensures s) (c.insert.ensures s)
 
 pub loop-root-preserved : goal.loop-root-preserved
 loop-root-preserved c = λ s.
