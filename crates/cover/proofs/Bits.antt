@@ -1,8 +1,8 @@
 -- Bits of numbers.
-use Rattle.std.proofs.Common.{◌≡◌, ℕ, zero, suc, ◌+◌, ◌-◌, ◌*◌, ◌/◌, ◌%◌, ◌^◌, ◌<◌, ◌≤◌, Bool, true, false, cond, not, ◌&&◌, ◌||◌, eqb, sym, refl, ap, ◌∙◌, ap₂, ⊎_elim, mod-lt, div-add-mod', arith, lit<}
+use Rattle.std.proofs.Common.{◌≡◌, ℕ, zero, suc, ◌+◌, ◌-◌, ◌*◌, ◌/◌, ◌%◌, ◌<◌, Bool, true, false, cond, not, ◌&&◌, eqb, sym, refl, ap, ◌∙◌, ⊎_elim, mod-lt, div-add-mod', arith, lit<}
 use lib.Bits.{bit_and, and_shr, and_mod}
 use lib.Arith.{bin_ind}
-use Rattle.std.proofs.lemmas.Bool.{and_parts, and_cases, not-false, true≢false, eqb-true}
+use Rattle.std.proofs.lemmas.Bool.{and_cases, not-false, true≢false, eqb-true}
 use Rattle.network.specs.Rows.{bit_at}
 use Rattle.network.proofs.Bits.{every, computed}
 

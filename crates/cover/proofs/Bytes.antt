@@ -1,9 +1,8 @@
 -- Sets of minterms, byte by byte.
-use Rattle.std.proofs.Common.{◌≡◌, ℕ, zero, suc, ◌+◌, ◌-◌, ◌/◌, ◌%◌, ◌^◌, ◌<◌, ◌≤◌, Bool, true, false, not, ◌&&◌, ◌||◌, ◌⊎◌, List, [], ◌∷◌, length, get_or, set, replicate, sym, refl, ap, ◌∙◌, ap₂, inl, inr, mod-lt, arith, lit<}
-use lib.Bits.{bit_and, bit_or}
+use Rattle.std.proofs.Common.{◌≡◌, ℕ, zero, suc, ◌+◌, ◌/◌, ◌%◌, ◌<◌, ◌≤◌, Bool, false, List, length, get_or, set, replicate, sym, refl, ap, ◌∙◌, inl, inr, mod-lt, arith, lit<}
 use Rattle.std.proofs.lemmas.List.{get_or-set_same, get_or-set_other, length-set}
 use Rattle.std.proofs.lemmas.Bool.{cases_eq}
-use Rattle.network.specs.Limits.{minterms, function_bytes}
+use Rattle.network.specs.Limits.{function_bytes}
 use Rattle.network.specs.Rows.{bit_at, bit_of}
 use Rattle.network.specs.declared.row.Function.{Function}
 use Rattle.network.proofs.Bits.{bit-of-zero}

@@ -1,16 +1,16 @@
 -- Every literal of an expanded cube is needed, in whatever order the literals were tried.
-use Rattle.std.proofs.Common.{◌≡◌, ℕ, zero, suc, ◌+◌, ◌-◌, ◌%◌, ◌^◌, ◌<◌, ◌≤◌, Bool, true, false, cond, not, ◌&&◌, ◌||◌, ◌⊎◌, List, [], ◌∷◌, sym, refl, ap, ◌∙◌, subst, ap₂, inl, inr, ⊎_elim, lt_of_le_of_lt, mod-eq_of_lt, arith}
+use Rattle.std.proofs.Common.{◌≡◌, ℕ, ◌-◌, ◌^◌, ◌<◌, Bool, true, false, cond, not, ◌&&◌, ◌⊎◌, List, [], ◌∷◌, sym, refl, ap, ◌∙◌, subst, ap₂, inl, inr, ⊎_elim, lt_of_le_of_lt, mod-eq_of_lt}
 use lib.Bits.{bit_and, and_comm, and_self, and_mask, and_le_l}
 use lib.Pow.{ones_lt}
 use Rattle.std.specs.List.{ContainsAt as Has}
-use Rattle.std.proofs.lemmas.Bool.{or_cases, or_left, or_right, or_parts, both_ways, not-true, cases_Bool, eqb-true}
+use Rattle.std.proofs.lemmas.Bool.{or_cases, or_left, or_right, both_ways, not-true, eqb-true}
 use Rattle.network.specs.Rows.{bit_at}
 use Rattle.roll.proofs.Members.{has-none, has-cases}
 use Rattle.cover.specs.Cubes.{in_cube, all_but, part, struck, start}
 use Rattle.cover.specs.Covers.{touches, expanded}
 use Rattle.cover.specs.Laws.{IsCube}
 use Rattle.cover.specs.declared.cube.Cube.{Cube}
-use Rattle.network.proofs.Bits.{every, computed, bit-and}
+use Rattle.network.proofs.Bits.{computed, bit-and}
 use Rattle.cover.proofs.Bits.{and_assoc}
 use Rattle.cover.proofs.Strikes.{in-part}
 

@@ -7,7 +7,7 @@ use Rattle.network.specs.Rows.{fanin}
 use Rattle.network.specs.Nets.{Net, nodes, size, row_at}
 use Rattle.network.specs.declared.row.Row.{Row}
 use Rattle.theory.specs.Values.{Lowers}
-use Rattle.logic.specs.Lanes.{LaneRow, always, picked, Admit}
+use Rattle.logic.specs.Lanes.{LaneRow, always, picked}
 use Rattle.logic.specs.Sets.{is_in, Closed}
 use Rattle.logic.specs.Walks.{node_step, walked, signal_row, WalkedWhere, AdmitWhere}
 use Rattle.logic.proofs.Walks.{admit-front, leaves-long, walked-sound}

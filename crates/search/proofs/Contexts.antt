@@ -1,13 +1,11 @@
 -- The network of a context.
-use Rattle.std.proofs.Common.{◌≡◌, ℕ, ◌+◌, ◌<◌, ◌≤◌, List, length, get_or, sym, refl, ap, ◌∙◌, subst, ap₂, arith}
+use Rattle.std.proofs.Common.{◌≡◌, ℕ, ◌+◌, ◌≤◌, List, get_or, ap₂, arith}
 use mathlib.Core.Path.{subst⁻¹}
 use Rattle.network.specs.Limits.{max_fanins}
-use Rattle.network.specs.Rows.{blank, Legal, Lower, no_signal}
-use Rattle.network.specs.Nets.{Net, nodes, size, row_at, output_at, LegalNet}
-use Rattle.network.specs.Parts.{net_of}
+use Rattle.network.specs.Rows.{blank, Legal, Lower}
+use Rattle.network.specs.Nets.{size, row_at, LegalNet}
 use Rattle.network.specs.declared.row.Row.{Row}
 use Rattle.network.specs.declared.row.Signal.{Signal}
-use Rattle.network.specs.declared.network.Network.{Network}
 use Rattle.network.proofs.Nets.{legal-net}
 use Rattle.logic.specs.Limits.{max_signals}
 use Rattle.window.specs.declared.extracted.Context.{Context}

@@ -1,10 +1,10 @@
 -- What is read in a lane.
-use Rattle.std.proofs.Common.{◌≡◌, ℕ, zero, suc, ◌+◌, ◌*◌, ◌^◌, ◌<◌, ◌≤◌, Bool, true, false, cond, not, List, length, get_or, sym, refl, ap, ◌∙◌, subst, ap₂, add-one, arith}
+use Rattle.std.proofs.Common.{◌≡◌, ℕ, ◌+◌, ◌^◌, ◌<◌, ◌≤◌, Bool, true, false, cond, not, List, get_or, sym, refl, ap, ◌∙◌, add-one, arith}
 use mathlib.Core.Path.{subst⁻¹}
 use mathlib.Core.Bool.{xor, beq}
 use Rattle.std.proofs.lemmas.Nat.{pow_below}
 use Rattle.theory.specs.Values.{number}
-use Rattle.theory.proofs.Numbers.{pow-twice, number-below}
+use Rattle.theory.proofs.Numbers.{pow-twice}
 use Rattle.logic.specs.Lanes.{LaneRow}
 
 -- a value that was read from a slice

@@ -1,12 +1,11 @@
 -- Lists of minterms, byte by byte.
-use Rattle.std.proofs.Common.{◌≡◌, ℕ, zero, suc, ◌+◌, ◌*◌, ◌/◌, ◌%◌, ◌^◌, ◌<◌, ◌≤◌, Bool, true, false, cond, not, ◌||◌, eqb, ◌⊎◌, List, length, get_or, set, replicate, sym, refl, ap, ◌∙◌, ap₂, inl, inr, ⊎_elim, mod-lt, add-one, arith, lit<}
+use Rattle.std.proofs.Common.{◌≡◌, ℕ, zero, suc, ◌+◌, ◌*◌, ◌/◌, ◌%◌, ◌^◌, ◌<◌, ◌≤◌, Bool, true, false, cond, not, ◌||◌, eqb, List, length, get_or, set, replicate, sym, refl, ap, ◌∙◌, ap₂, ⊎_elim, mod-lt, add-one, arith, lit<}
 use lib.Bits.{bit_or}
 use mir.Val.{bool_byte}
 use Rattle.std.proofs.lemmas.List.{get_or-set_same, get_or-set_other}
-use Rattle.std.proofs.lemmas.Bool.{cases_Bool, cases_eq, eq-eqb, ne_eqb, eqb-true}
-use Rattle.network.specs.Limits.{function_bytes, minterms}
+use Rattle.std.proofs.lemmas.Bool.{cases_eq, eq-eqb, ne_eqb}
+use Rattle.network.specs.Limits.{function_bytes}
 use Rattle.network.specs.Rows.{bit_at, bit_of}
-use Rattle.network.specs.declared.row.Function.{Function}
 use Rattle.context.specs.Care.{count_below}
 use Rattle.context.proofs.Counts.{count_yes, count_no}
 use Rattle.network.proofs.Bits.{bit-of-zero, every, computed, bit-or}

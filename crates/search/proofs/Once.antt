@@ -1,10 +1,9 @@
 -- The counting finder has just one answer, and it keeps the rules.
-use Rattle.std.proofs.Common.{◌≡◌, ℕ, ◌+◌, ◌^◌, ◌<◌, ◌≤◌, Bool, true, false, ◌⊎◌, sym, refl, ap, ◌∙◌, ap₂, inl, inr, ⊎_elim, arith}
+use Rattle.std.proofs.Common.{◌≡◌, ℕ, ◌+◌, ◌<◌, ◌≤◌, true, false, sym, refl, ap, ◌∙◌, ⊎_elim, arith}
 use Rattle.std.proofs.lemmas.Bool.{both_ways, cases_order, cases_lt}
 use Rattle.window.specs.declared.extracted.Context.{Context}
 use Rattle.search.specs.Contexts.{space, dull_at, DullIn, DullTo}
-use Rattle.search.specs.Answers.{upto_of}
-use Rattle.search.specs.Rules.{Keeps, Asked, Rules}
+use Rattle.search.specs.Rules.{Rules}
 use Rattle.search.specs.Counts.{Counts}
 use Rattle.search.specs.declared.listed.Listed.{Listed}
 use Rattle.search.specs.declared.answer.Answer.{Answer}

@@ -1,5 +1,5 @@
 -- Rounds.
-use Rattle.std.proofs.Common.{◌≡◌, ℕ, ◌<◌, Bool, true, false, List, get_or, Some, None, Option, sym, ap, ◌∙◌}
+use Rattle.std.proofs.Common.{◌≡◌, ℕ, Bool, List, get_or, Some, None, Option, sym, ◌∙◌}
 use Rattle.network.specs.Rows.{bit_at}
 use Rattle.theory.specs.Values.{number}
 use Rattle.theory.proofs.Numbers.{bit-number}

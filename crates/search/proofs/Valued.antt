@@ -1,7 +1,7 @@
 -- What a walk over the signals that matter says of the roots and of the target's fanins.
-use Rattle.std.proofs.Common.{◌≡◌, ℕ, ◌+◌, ◌<◌, ◌≤◌, Bool, true, List, length, get_or, take, None, sym, refl, ap, ◌∙◌, subst, arith}
+use Rattle.std.proofs.Common.{◌≡◌, ℕ, ◌<◌, ◌≤◌, Bool, true, List, None, refl, arith}
 use Rattle.network.specs.Rows.{fanin}
-use Rattle.network.specs.Nets.{Net, size, row_at, output_at}
+use Rattle.network.specs.Nets.{size, row_at, output_at}
 use Rattle.theory.specs.Values.{target}
 use Rattle.logic.specs.Sets.{is_in}
 use Rattle.logic.specs.Lanes.{LaneRow, Admit}

@@ -1,5 +1,5 @@
 -- Rounds: the assignments of the lanes of some words.
-use Rattle.std.specs.Prelude.{ℕ, Bool, List, Option, slice_index}
+use Rattle.std.specs.Prelude.{ℕ, List, Option, slice_index}
 use Rattle.network.specs.Rows.{bit_at}
 use Rattle.theory.specs.Values.{number}
 use Rattle.logic.specs.Limits.{word_bits}

@@ -1,5 +1,5 @@
 -- The finder rules: what a look has to answer.
-use Rattle.std.specs.Prelude.{◌≡◌, ℕ, ◌+◌, ◌<◌, ◌≤◌, Bool, false}
+use Rattle.std.specs.Prelude.{◌≡◌, ℕ, ◌+◌, ◌<◌, ◌≤◌, false}
 use Rattle.window.specs.declared.extracted.Context.{Context}
 use Rattle.search.specs.Limits.{max_budget}
 use Rattle.search.specs.Contexts.{space, dull_at, DullTo}

@@ -1,8 +1,7 @@
-use Rattle.std.proofs.Common.{◌≡◌, ℕ, ◌<◌, Bool, true, false, length, get_or, sym, ap, ◌∙◌, ap₂, arith, below_more}
+use Rattle.std.proofs.Common.{length, get_or, sym, ◌∙◌, ap₂, arith, below_more}
 use mathlib.Core.Bool.{xor}
 use Rattle.network.specs.Rows.{no_signal}
 use Rattle.context.proofs.Any.{any_some, any-never}
-use Rattle.logic.specs.Lanes.{LaneRow}
 use Rattle.search.proofs.Lanes.{read_at, xor-like, xor-unlike}
 use Rattle.search.proofs.lane.differs.Goals as goal
 

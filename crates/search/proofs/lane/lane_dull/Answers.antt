@@ -1,8 +1,7 @@
-use Rattle.std.proofs.Common.{◌≡◌, ℕ, ◌<◌, ◌≤◌, Bool, true, false, not, ◌||◌, List, length, get_or, None, sym, refl, ap, ◌∙◌, subst, ap₂, arith}
-use mathlib.Core.Path.{subst⁻¹}
+use Rattle.std.proofs.Common.{◌≡◌, ℕ, ◌≤◌, Bool, not, ◌||◌, List, length, get_or, None, sym, ap, ◌∙◌, subst, arith}
 use mathlib.Core.Bool.{xor}
 use Rattle.network.specs.Rows.{no_signal}
-use Rattle.network.specs.Nets.{Net, size, row_at}
+use Rattle.network.specs.Nets.{size}
 use Rattle.network.specs.Parts.{net_of}
 use Rattle.network.specs.declared.row.Row.{Row}
 use Rattle.network.specs.declared.row.Signal.{Signal}

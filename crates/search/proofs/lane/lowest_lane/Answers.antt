@@ -1,4 +1,4 @@
-use Rattle.std.proofs.Common.{◌≡◌, ℕ, ◌<◌, sym, ◌∙◌, arith, below_more}
+use Rattle.std.proofs.Common.{◌<◌, sym, ◌∙◌, arith, below_more}
 use Rattle.search.proofs.lane.lowest_lane.Goals as goal
 
 pub returns-then-not-lane_dull : goal.returns-then-not-lane_dull

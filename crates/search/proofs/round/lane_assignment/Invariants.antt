@@ -1,4 +1,4 @@
-use Rattle.std.proofs.Common.{◌≡◌, ℕ, ◌^◌, ◌<◌, get_or}
+use Rattle.std.proofs.Common.{◌≡◌, ◌^◌, ◌<◌, get_or}
 use Rattle.network.specs.Rows.{bit_at}
 use Rattle.theory.specs.Values.{number}
 use Rattle.search.proofs.round.lane_assignment.Given as goal

@@ -1,4 +1,4 @@
-use Rattle.std.proofs.Common.{◌≡◌, ℕ, ◌<◌, ◌≤◌, Bool, List, length, get_or, sym, ap, ◌∙◌, arith}
+use Rattle.std.proofs.Common.{◌≡◌, ℕ, ◌<◌, Bool, List, get_or, ap, ◌∙◌, arith}
 use Rattle.network.specs.Rows.{bit_at}
 use Rattle.network.specs.Parts.{net_of}
 use Rattle.logic.specs.Lanes.{LaneRow, Admit}

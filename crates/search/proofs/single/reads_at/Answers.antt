@@ -11,7 +11,7 @@ use Rattle.logic.specs.Walks.{AdmitSignals, signal_row}
 use Rattle.logic.proofs.Fronts.{counted-at}
 use Rattle.search.specs.Contexts.{net_in}
 use Rattle.search.specs.Lanes.{AdmitFanins}
-use Rattle.search.proofs.Contexts.{legal-in, size-most, target_row, target-few, target-lower}
+use Rattle.search.proofs.Contexts.{size-most, target_row, target-few, target-lower}
 use Rattle.search.proofs.single.reads_at.Goals as goal
 
 pub put_bits-requires : goal.put_bits-requires

@@ -1,4 +1,4 @@
-use Rattle.std.proofs.Common.{◌≡◌, ℕ, ◌<◌, ◌≤◌, Bool, List, length, get_or, take, None, sym, ap, ◌∙◌, subst, arith}
+use Rattle.std.proofs.Common.{◌≡◌, ℕ, Bool, List, length, take, None, ap, subst, arith}
 use mathlib.Core.Path.{subst⁻¹}
 use Rattle.network.specs.Nets.{Net, size, nodes}
 use Rattle.network.specs.Parts.{net_of}

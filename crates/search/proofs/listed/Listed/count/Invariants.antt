@@ -1,4 +1,4 @@
-use Rattle.std.proofs.Common.{◌≡◌, ℕ, ◌≤◌}
+use Rattle.std.proofs.Common.{◌≡◌, ◌≤◌}
 use Rattle.context.specs.Care.{count_below}
 use Rattle.search.specs.Lists.{has}
 use Rattle.search.proofs.listed.Listed.count.Given as goal

@@ -1,4 +1,4 @@
-use Rattle.std.proofs.Common.{not, sym, ap, ◌∙◌, arith}
+use Rattle.std.proofs.Common.{not, sym, ap, arith}
 use Rattle.network.specs.Limits.{minterms}
 use Rattle.context.proofs.Any.{any_some, any-never}
 use Rattle.search.specs.Lists.{has}
