@@ -1,11 +1,15 @@
 -- How large a network may be.
-use Rattle.std.specs.Prelude.{ℕ, ◌/◌, ◌^◌}
+use Rattle.std.specs.Prelude.{ℕ, ◌+◌, ◌/◌, ◌^◌}
 
 abbrev pub max_inputs : ℕ
 max_inputs = 48
 
 abbrev pub max_nodes : ℕ
 max_nodes = 480
+
+-- signals of a network
+abbrev pub max_signals : ℕ
+max_signals = max_inputs + max_nodes
 
 abbrev pub max_fanins : ℕ
 max_fanins = 8

@@ -1,7 +1,7 @@
 //! What a row has to meet as the row of a signal.
-ghost use Rattle.std.specs.Prelude.{◌≡◌, ℕ, ◌+◌, ◌-◌, ◌*◌, ◌/◌, ◌%◌, ◌^◌, ◌<◌, ◌≤◌, length, Decides, slice_index};
+ghost use Rattle.std.specs.Prelude.{◌≡◌, ℕ, ◌+◌, ◌-◌, ◌*◌, ◌/◌, ◌%◌, ◌^◌, ◌<◌, ◌≤◌, length, take, Decides, slice_index, slice_index_or};
 ghost use Rattle.network.specs.Limits.{max_fanins, function_bytes};
-ghost use Rattle.network.specs.Rows.{bit_of, Lower, Unused, Clean, Bytes, Legal};
+ghost use Rattle.network.specs.Rows.{bit_of, no_signal, fanin, Lower, Unused, Clean, Bytes, Legal};
 
 use crate::limits::{FUNCTION_BYTES, MAX_FANINS, MINTERMS};
 use crate::row::{Function, Minterm, Row, Signal};
@@ -53,17 +53,20 @@ impl Row {
         self.fanins.len()
     }
 
+    /// The fanins: the places that are used.
+    pub fn used(&self) -> &[Signal]
+        ensures value { result.now ≡ take self.now.count self.now.fanins }
+        ensures fanin { (i : ℕ) → i < length result.now → (slice_index_or result.now i no_signal).0 ≡ fanin self.now i }
+    {
+        &self.fanins[0..(self.count as usize).min(MAX_FANINS)]
+    }
+
     /// Whether every fanin is a lower signal.
     fn is_lower(&self, signal: Signal) -> bool
         requires { self.now.count ≤ max_fanins }
         ensures { Decides result (Lower signal.0 self.now) }
     {
-        for i in 0..self.count as usize {
-            if self.fanins[i].0 >= signal.0 {
-                return false;
-            }
-        }
-        true
+        self.used().iter().all(|fanin| fanin.0 < signal.0)
     }
 
     /// Whether the places past the last fanin hold 0.
@@ -71,8 +74,8 @@ impl Row {
         requires { self.now.count ≤ max_fanins }
         ensures { Decides result (Unused self.now) }
     {
-        for i in self.count as usize..self.places() {
-            if self.fanins[i].0 != 0 {
+        for fanin in &self.fanins[self.count as usize..] {
+            if fanin.0 != 0 {
                 return false;
             }
         }

@@ -6,6 +6,9 @@ pub const MAX_INPUTS: usize = 48;
 /// Nodes of a network.
 pub const MAX_NODES: usize = 480;
 
+/// Signals of a network.
+pub const MAX_SIGNALS: usize = MAX_INPUTS + MAX_NODES;
+
 /// Fanins of a node.
 pub const MAX_FANINS: usize = 8;
 

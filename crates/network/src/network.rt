@@ -1,10 +1,12 @@
 //! A network: its primary inputs, its nodes and its outputs.
 ghost use Rattle.std.specs.Prelude.{◌≡◌, ℕ, ◌+◌, ◌<◌, ◌≤◌, length, get_or, slice_index_or};
 ghost use Rattle.network.specs.Limits.{max_inputs, max_nodes};
+ghost use Rattle.network.specs.declared.network.PushError.TheVariants.{NoMemory};
 ghost use Rattle.network.specs.Rows.{blank, no_signal, Legal};
 
 use crate::row::{Row, Signal};
 use crate::table::Table;
+use std::alloc::AllocError;
 
 mod ops;
 mod parts;
@@ -24,7 +26,7 @@ pub struct Network {
 }
 
 /// Why a network takes no further row or output.
-#[derive(Clone, Copy, Drop)]
+#[derive(Clone, Copy, PartialEq, Eq, Debug, Drop)]
 pub enum PushError {
     /// It has as many nodes as a network may have.
     Full,
@@ -33,4 +35,12 @@ pub enum PushError {
     /// The output is no signal.
     NoSignal,
     NoMemory,
+}
+
+impl From<AllocError> for PushError {
+    ghost from_gives = { λ _ e. e ≡ NoMemory };
+
+    fn from(_: AllocError) -> PushError {
+        PushError::NoMemory
+    }
 }

@@ -20,6 +20,8 @@ pub struct Function {
 }
 
 /// A node's fanins, the first `count` of `fanins`, and its function, with nothing known of them.
+/// An array with a count beside it, and no `Vec`: rows are plain data that is copied, and a walk over
+/// them follows no pointers.
 #[derive(Clone, Copy)]
 pub struct Row {
     pub count: u8,

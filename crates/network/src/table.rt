@@ -36,11 +36,7 @@ impl Table {
     pub fn get(&self, n: usize) -> Option<Row>
         ensures { MatchOption result (length self.now.rows.items ≤ n) (λ x. (n < length self.now.rows.items) × (x ≡ slice_index_or self.now.rows.items n blank)) }
     {
-        if n < self.rows.len() {
-            Some(self.rows[n])
-        } else {
-            None
-        }
+        self.rows.get(n).copied()
     }
 
     pub fn push(&mut self, row: Row) -> Result<(), AllocFailed<Row>>

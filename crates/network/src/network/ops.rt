@@ -1,8 +1,8 @@
 //! What can be done with a network.
-ghost use Rattle.std.specs.Prelude.{◌≡◌, ℕ, ◌+◌, ◌<◌, ◌≤◌, cond, length, MatchOption, nat_le, nat_lt};
+ghost use Rattle.std.specs.Prelude.{◌≡◌, ℕ, ◌+◌, ◌<◌, ◌≤◌, cond, length, MatchOption, MatchResult, nat_le, nat_lt};
 ghost use Rattle.network.specs.Limits.{max_inputs, max_nodes};
-ghost use Rattle.network.specs.Rows.{Clean};
-ghost use Rattle.network.specs.Nets.{nodes, size, row_at, bare, replaced};
+ghost use Rattle.network.specs.Rows.{Clean, Legal};
+ghost use Rattle.network.specs.Nets.{nodes, size, row_at, bare, with_row, with_output, replaced};
 ghost use Rattle.network.specs.Parts.{net_of, NodeIs, PushesRow, PushesOutput};
 
 use super::{Network, PushError};
@@ -10,7 +10,7 @@ use crate::limits::{MAX_INPUTS, MAX_NODES};
 use crate::node::Node;
 use crate::row::{Function, Row, Signal};
 use crate::table::Table;
-use std::alloc::Global;
+use std::alloc::{AllocError, Global};
 
 impl Network {
     /// The network of some inputs, with no nodes and no outputs; None where the inputs are too many.
@@ -58,6 +58,16 @@ impl Network {
         }
     }
 
+    /// One node more, whose row is known to be legal: only memory can be wanting.
+    pub fn append_row(&mut self, row: Row) -> Result<(), AllocError>
+        requires room { nodes (net_of self.old) < max_nodes }
+        requires legal { Legal (size (net_of self.old)) row }
+        ensures { MatchResult result (λ _. net_of self.new ≡ with_row (net_of self.old) row) (λ _. net_of self.new ≡ net_of self.old) }
+    {
+        self.table.push(row)?;
+        Ok(())
+    }
+
     /// One node more.
     pub fn push_row(&mut self, row: Row) -> Result<(), PushError>
         ensures { PushesRow (net_of self.old) row result (net_of self.new) }
@@ -68,10 +78,17 @@ impl Network {
         if !row.is_legal(Signal(self.signals() as u16)) {
             return Err(PushError::Illegal);
         }
-        match self.table.push(row) {
-            Ok(()) => Ok(()),
-            Err(_) => Err(PushError::NoMemory),
-        }
+        self.append_row(row)?;
+        Ok(())
+    }
+
+    /// One output more, which is known to be a signal: only memory can be wanting.
+    pub fn append_output(&mut self, signal: Signal) -> Result<(), AllocError>
+        requires { signal.0 < size (net_of self.old) }
+        ensures { MatchResult result (λ _. net_of self.new ≡ with_output (net_of self.old) signal) (λ _. net_of self.new ≡ net_of self.old) }
+    {
+        self.outputs.push(signal)?;
+        Ok(())
     }
 
     /// One output more.
@@ -81,10 +98,8 @@ impl Network {
         if !self.is_signal(signal) {
             return Err(PushError::NoSignal);
         }
-        match self.outputs.push(signal) {
-            Ok(()) => Ok(()),
-            Err(_) => Err(PushError::NoMemory),
-        }
+        self.append_output(signal)?;
+        Ok(())
     }
 
     /// Gives node n another function.
