@@ -1,5 +1,5 @@
 -- What a search tells, and what an answer to adding leaves.
-use Rattle.std.proofs.Common.{◌≡◌, ℕ, suc, ◌+◌, ◌<◌, Bool, true, false, List, ◌++◌, length, get_or, take, drop, sym, ap, ◌∙◌, subst, add-zero, le_of_lt, add-one, arith, length-append, length-drop}
+use Rattle.std.proofs.Common.{◌≡◌, ℕ, suc, ◌+◌, ◌<◌, ◌≤◌, Bool, true, false, List, ◌++◌, length, get_or, take, drop, sym, ap, ◌∙◌, subst, add-zero, le_of_lt, add-one, arith, length-append, length-drop}
 use Rattle.std.specs.List.{insert}
 use Rattle.std.proofs.lemmas.List.{take_at, length-take-le, get_or_default}
 use Rattle.roll.specs.Rolls.{place, entered, ascending, IsRoll}
@@ -67,3 +67,9 @@ adds-roll lt tr con x n p q Present i s =
     rw add-zero (subst (IsRoll lt n) (sym s.1) i)
 adds-roll lt tr con x n p q Full i s =
     rw add-zero (subst (IsRoll lt n) (sym s.2) i)
+
+-- the same, where k is how many entries more there are
+pub adds-roll-by : {X : Type 0} (lt : X → X → Bool) → Transitive lt → Connected lt → (x : X) (n k : ℕ) (p q : List X) (r : Added) → k ≡ grown r → n ≤ length p → ascending lt (take n p) ≡ true → Adds lt x n p r q
+    → IsRoll lt (n + k) q
+adds-roll-by lt tr con x n k p q r e f a s =
+    subst (λ m. IsRoll lt (n + m) q) (sym e) (adds-roll lt tr con x n p q r (record { fits = f; rising = a }) s)

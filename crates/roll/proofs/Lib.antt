@@ -3,3 +3,4 @@ pub mod Places
 pub mod Rising
 pub mod Shift
 pub mod Adds
+pub mod Points

@@ -3,7 +3,7 @@ ghost use Rattle.std.specs.Prelude.{◌≡◌};
 ghost use Rattle.roll.specs.Adding.{grown};
 
 /// `specs/Adding.antt` says what each answer means.
-#[derive(Clone, Copy)]
+#[derive(Clone, Copy, PartialEq, Eq, Debug)]
 pub enum Added {
     /// It was absent, and is an entry now.
     Entered,

@@ -1,6 +1,6 @@
 //! The roll.
-ghost use Rattle.std.specs.Prelude.{◌≡◌, ℕ, ◌+◌, take};
-ghost use Rattle.roll.specs.Rolls.{IsRoll, Distinct};
+ghost use Rattle.std.specs.Prelude.{◌≡◌, ℕ, ◌+◌, ◌≤◌, true, length, take};
+ghost use Rattle.roll.specs.Rolls.{ascending, IsRoll, Distinct};
 ghost use Rattle.roll.specs.Adding.{Adds, grown};
 
 use crate::added::Added;
@@ -13,6 +13,8 @@ use crate::order::Ranked;
 pub struct Roll<'a, T: Ranked> {
     places: &'a mut [T],
     count: usize,
+    ghost fits: { count ≤ length places.now },
+    ghost rising: { ascending T.below (take count places.now) ≡ true },
 }
 
 impl<'a, T: Ranked> Roll<'a, T> {
@@ -34,7 +36,6 @@ impl<'a, T: Ranked> Roll<'a, T> {
 
     /// The entries, ascending.
     pub fn entries(&self) -> &[T]
-        requires { IsRoll T.below self.now.count self.now.places.now }
         ensures { result.now ≡ take self.now.count self.now.places.now }
     {
         &self.places[0..self.count]
@@ -42,7 +43,6 @@ impl<'a, T: Ranked> Roll<'a, T> {
 
     /// Adds an entry.
     pub fn add(&mut self, item: T) -> Added
-        requires { IsRoll T.below self.old.count self.old.places.now }
         ensures adds { Adds T.below item self.old.count self.old.places.now result self.new.places.now }
         ensures count { self.new.count ≡ self.old.count + grown result }
         ensures roll { IsRoll T.below self.new.count self.new.places.now }

@@ -10,17 +10,11 @@ fn place_of<T: Ranked>(entries: &[T], item: &T) -> usize
     requires { ascending T.below entries.now ≡ true }
     ensures { result ≡ place T.below item.now entries.now }
 {
-    let mut low = 0;
-    let mut high = entries.len();
-    while low < high {
-        let middle = low + (high - low) / 2;
-        if entries[middle].precedes(item) {
-            low = middle + 1;
-        } else {
-            high = middle;
-        }
-    }
-    low
+    entries.partition_point(
+        |entry|
+            ensures { result ≡ T.below entry.now item.entry.now }
+        { entry.precedes(item) },
+    )
 }
 
 /// Where the item stands among the entries (Ok), or where it would go (Err).
