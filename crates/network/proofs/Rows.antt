@@ -1,14 +1,13 @@
 -- What holds of each row at its place, after one is replaced or added.
-use Rattle.std.proofs.Common.{◌≡◌, ℕ, ◌+◌, ◌<◌, ◌≤◌, Bool, cond, List, [], ◌∷◌, ◌++◌, length, get_or, set, sym, refl, ap, subst, inl, inr, arith}
+use Rattle.std.proofs.Common.{◌≡◌, ℕ, ◌+◌, ◌<◌, ◌≤◌, List, length, get_or, set, sym, subst, inl, inr, arith}
 use mathlib.Core.Logic.{∥∥₁_elim}
-use Rattle.std.proofs.lemmas.List.{get_or-set_same, get_or-set_other, length-set, get_or_append_left, get_or_push, length_push}
-use Rattle.std.proofs.lemmas.Bool.{cases_eq, cases_lt, cases_cond}
-use Rattle.network.specs.declared.row.Signal.{Signal}
+use Rattle.std.proofs.lemmas.List.{get_or-set_same, get_or-set_other, length-set}
+use Rattle.std.proofs.lemmas.Bool.{cases_eq}
 use denote.Struct.Props.{props}
 use Rattle.network.specs.declared.row.Function.{Function}
 use Rattle.network.specs.declared.row.Row.{Row}
 use Rattle.network.specs.Limits.{max_fanins, function_bytes}
-use Rattle.network.specs.Rows.{Legal, Lower, Unused, Clean, Bytes, blank, no_signal, with_function}
+use Rattle.network.specs.Rows.{Legal, Lower, Unused, Clean, Bytes, blank, with_function}
 
 -- each row is legal at its place
 abbrev pub Rows : ℕ → List Row → Type 0
@@ -59,40 +58,3 @@ legal-set i xs n x h new old k l =
       | inl e ↦ subst (λ j. ∥ Legal (i + j) (get_or (set xs n x) j blank) ∥₁) (sym e) (subst (λ r. ∥ Legal (i + n) r ∥₁) (sym (get_or-set_same xs n x blank h)) ∣ new ∣₁)
       | inr ne ↦ subst (λ r. ∥ Legal (i + k) r ∥₁) (sym (get_or-set_other xs n k x blank ne)) (old k k<)
     ]
-
--- the rows after one was added
-pub legal-push : (i : ℕ) (xs : List Row) (x : Row) → Legal (i + length xs) x → Rows i xs → Rows i (xs ++ x ∷ [])
-legal-push i xs x new old k l = elim (cases_lt k (length xs)) [
-  | inl h ↦ subst (λ r. ∥ Legal (i + k) r ∥₁) (sym (get_or_append_left xs (x ∷ []) blank k h)) (old k h)
-  | inr h ↦ let same : k ≡ length xs = omega (arith, length_push xs x) in
-      subst (λ j. ∥ Legal (i + j) (get_or (xs ++ x ∷ []) j blank) ∥₁) (sym same) (subst (λ r. ∥ Legal (i + length xs) r ∥₁) (sym (get_or_push xs x blank (length xs) refl)) ∣ new ∣₁)
-]
-
--- what a push of a row that may want memory leaves
-pub record Pushed (i : ℕ) (xs ys : List Row) : Type 0 where
-  pub more : length xs ≤ length ys
-  pub most : length ys ≤ length xs + 1
-  pub all : Rows i ys
-
-pub pushed : (i : ℕ) (xs ys : List Row) (x : Row) (b : Bool) → ys ≡ cond b (xs ++ x ∷ []) xs → Legal (i + length xs) x → Rows i xs → Pushed i xs ys
-pushed i xs ys x b e new old = elim (cases_cond b (xs ++ x ∷ []) xs ys e) [
-  | inl p ↦ let l : length ys ≡ length xs + 1 = simp length_push at (ap length p) in record { more = omega arith; most = omega arith; all = subst (Rows i) (sym p) (legal-push i xs x new old) }
-  | inr p ↦ let l : length ys ≡ length xs = ap length p in record { more = omega arith; most = omega arith; all = subst (Rows i) (sym p) old }
-]
-
--- every one of some signals is below n
-abbrev pub Below : ℕ → List Signal → Type 0
-Below n xs = (j : ℕ) → j < length xs → (get_or xs j no_signal).0 < n
-
-below-push : (n : ℕ) (xs : List Signal) (x : Signal) → x.0 < n → Below n xs → Below n (xs ++ x ∷ [])
-below-push n xs x new old k l = elim (cases_lt k (length xs)) [
-  | inl h ↦ subst (λ s. s.0 < n) (sym (get_or_append_left xs (x ∷ []) no_signal k h)) (old k h)
-  | inr h ↦ let same : length xs ≡ k = omega (arith, length_push xs x) in subst (λ s. s.0 < n) (sym (get_or_push xs x no_signal k same)) new
-]
-
--- what a push of an output that may want memory leaves
-pub below-pushed : (n : ℕ) (xs ys : List Signal) (x : Signal) (b : Bool) → ys ≡ cond b (xs ++ x ∷ []) xs → x.0 < n → Below n xs → Below n ys
-below-pushed n xs ys x b e new old = elim (cases_cond b (xs ++ x ∷ []) xs ys e) [
-  | inl p ↦ subst (Below n) (sym p) (below-push n xs x new old)
-  | inr p ↦ subst (Below n) (sym p) old
-]

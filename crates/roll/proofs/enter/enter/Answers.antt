@@ -13,13 +13,6 @@ insert_at-requires g c =
     let e = c.in-Err.ensures.1 in
     record { within = omega arith; free = c.if-count-places.false }
 
--- the part from 0 to count is `take (count - 0)` as the checker reads it
-pub returns-in-Ok : goal.returns-in-Ok
-returns-in-Ok g c =
-    let P : ℕ → Type 0 = λ m. Stands c.args.item (take m c.args.places.now) c.in-Ok.field-0 in
-    let s : P c.args.count = subst P (sub-zero c.args.count) c.in-Ok.ensures in
-    ((c.in-Ok.field-0, s.0, s.1), refl)
-
 pub returns-else-count-places : goal.returns-else-count-places
 returns-else-count-places g c =
     let P : ℕ → Type 0 = λ m. Goes g.T.Ranked.below c.args.item (take m c.args.places.now) c.in-Err.at in
