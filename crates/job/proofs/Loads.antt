@@ -67,6 +67,10 @@ row_loaded bs at w fanins f small few within ew words none places copied past by
           };
     }
 
+-- the same row, by the pair of its record
+pub row-there : (bs bs' : List ℕ) (n at : ℕ) (r : Row) → bs' ≡ bs → at ≡ offset_of bs n → RowLoaded bs' at r → RowLoaded bs (offset_of bs n) r
+row-there bs bs' n at r e p k = subst (λ a. RowLoaded bs a r) p (subst (λ b. RowLoaded b at r) e k)
+
 -- no row yet
 pub rows_none : (bs : List ℕ) (net : Net) → net ≡ bare (inputs_of bs) → RowsLoaded bs 0 net
 rows_none bs net e = subst (RowsLoaded bs 0) (sym e) (record { inputs = refl; count = refl; outputs = refl; pairs = sym (seg-none bs 4); records = sym (seg-none bs (head_end bs)); end = add-zero (head_end bs) })

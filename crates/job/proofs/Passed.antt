@@ -109,9 +109,9 @@ record-passes bs s at size k =
     let f = byte_at bs at in
     let few : byte_at bs at ≤ max_fanins = k.few in
     let long : size ≡ record_size (byte_at bs at) = k.long in
-    record-end bs s at size true (grind (arith, nat_tests))
+    record-end bs s at size (cons-pass (shape_check bs at size) [] (grind (arith, nat_tests)))
     (upto_all (fanin_checks bs s at) f (λ i l. cons-pass _ [] (lt-ltb _ _ (k.lower i l))))
-    (sym (lt-ltb _ _ k.clean))
+    ∙ cons-pass (stray_check bs f (at + 1 + 2 * f)) [] (lt-ltb _ _ k.clean)
 
 -- and it is refused by none
 pub passes : (bs : List ℕ) → Passed bs → verdict (checks bs) ≡ None

@@ -1,6 +1,6 @@
 -- Parts of a file, one after another.
 use Rattle.std.proofs.Common.{◌≡◌, ℕ, suc, ◌+◌, ◌*◌, ◌/◌, ◌%◌, ◌<◌, ◌≤◌, List, [], ◌∷◌, ◌++◌, length, get_or, take, drop, sym, refl, ap, ◌∙◌, arith}
-use Rattle.std.proofs.lemmas.List.{take_all, take-append-drop, drop-take, drop-drop, drop_more, take-take}
+use Rattle.std.proofs.lemmas.List.{take_all, take-append-drop, drop-take, drop-drop, drop_more, take-take, get_or-take, get_or-drop}
 use Rattle.network.specs.Rows.{no_signal}
 use Rattle.network.specs.declared.row.Signal.{Signal}
 use Rattle.job.specs.Checks.{byte_at, word_at}
@@ -17,6 +17,11 @@ seg-none bs a = refl
 pub seg_all : (bs : List ℕ) → seg bs 0 (length bs) ≡ bs
 unfolding seg
 seg_all bs = take_all (length bs) bs (omega arith)
+
+-- a byte of a part
+pub byte-seg : (bs : List ℕ) (a n k : ℕ) → k < n → get_or (seg bs a n) k 0 ≡ byte_at bs (a + k)
+unfolding seg
+byte-seg bs a n k l = get_or-take n (drop a bs) k 0 l ∙ get_or-drop a bs k 0
 
 -- two parts, the one right after the other
 pub seg-append : (bs : List ℕ) (a n m : ℕ) → seg bs a n ++ seg bs (a + n) m ≡ seg bs a (n + m)

@@ -1,8 +1,9 @@
 -- The first check that fails, part by part.
-use Rattle.std.proofs.Common.{◌≡◌, ℕ, zero, suc, ◌+◌, ◌*◌, ◌<◌, ◌≤◌, Bool, true, false, cond, List, [], ◌∷◌, ◌++◌, length, Some, None, Option, sym, refl, ap, ◌∙◌, subst, inl, inr, add-one, arith}
+use Rattle.std.proofs.Common.{◌≡◌, ℕ, zero, suc, ◌+◌, ◌*◌, ◌<◌, ◌≤◌, Bool, true, false, cond, List, [], ◌∷◌, ◌++◌, length, Some, None, Option, sym, refl, ap, ◌∙◌, subst, inl, inr, nat_lt, add-one, arith}
 use Rattle.std.proofs.lemmas.Bool.{cases_lt}
 use Rattle.job.specs.declared.denial.Refusal.{Refusal}
-use Rattle.job.specs.Checks.{Check, verdict, upto, due_of, offset_of, length_of, byte_at, shape_check, stray_check, fanin_checks, record_checks, node_checks, head_checks, output_checks, pair_checks, end_checks, inputs_of, outputs_of, nodes_of, checks}
+use Rattle.job.specs.declared.denial.Cause.TheVariants.{SignalRange}
+use Rattle.job.specs.Checks.{Check, check, verdict, upto, due_of, offset_of, length_of, byte_at, shape_check, stray_check, fanin_checks, record_checks, node_checks, head_checks, output_checks, pair_checks, end_checks, inputs_of, outputs_of, nodes_of, checks}
 use Rattle.std.proofs.lemmas.Bool.Decides.{nat_tests}
 
 -- the first of two answers
@@ -58,18 +59,17 @@ cons-pass c cs e = ap (λ b. cond b (verdict cs) (Some c.fault)) e
 pub cons-stop : (c : Check) (cs : List Check) → c.holds ≡ false → verdict (c ∷ cs) ≡ Some c.fault
 cons-stop c cs e = ap (λ b. cond b (verdict cs) (Some c.fault)) e
 
-pub record-stop : (bs : List ℕ) (s at size : ℕ) (d : Refusal) → (shape_check bs at size).holds ≡ true → verdict (upto (byte_at bs at) (fanin_checks bs s at)) ≡ Some d → verdict (record_checks bs s at size) ≡ Some d
+pub record-stop : (bs : List ℕ) (s at size : ℕ) (d : Refusal) → verdict (shape_check bs at size ∷ []) ≡ None → verdict (upto (byte_at bs at) (fanin_checks bs s at)) ≡ Some d → verdict (record_checks bs s at size) ≡ Some d
 record-stop bs s at size d e h =
     let rest = stray_check bs (byte_at bs at) (at + 1 + 2 * byte_at bs at) ∷ [] in
-    cons-pass (shape_check bs at size) (upto (byte_at bs at) (fanin_checks bs s at) ++ rest) e
+    append-pass (shape_check bs at size ∷ []) (upto (byte_at bs at) (fanin_checks bs s at) ++ rest) e
     ∙ append-stop (upto (byte_at bs at) (fanin_checks bs s at)) rest d h
 
-pub record-end : (bs : List ℕ) (s at size : ℕ) (b : Bool) → (shape_check bs at size).holds ≡ true → verdict (upto (byte_at bs at) (fanin_checks bs s at)) ≡ None → b ≡ (stray_check bs (byte_at bs at) (at + 1 + 2 * byte_at bs at)).holds → verdict (record_checks bs s at size) ≡ cond b None (Some (stray_check bs (byte_at bs at) (at + 1 + 2 * byte_at bs at)).fault)
-record-end bs s at size b e h k =
-    let last = stray_check bs (byte_at bs at) (at + 1 + 2 * byte_at bs at) in
-    cons-pass (shape_check bs at size) (upto (byte_at bs at) (fanin_checks bs s at) ++ last ∷ []) e
-    ∙ append-pass (upto (byte_at bs at) (fanin_checks bs s at)) (last ∷ []) h
-    ∙ ap (λ x. cond x None (Some last.fault)) (sym k)
+pub record-end : (bs : List ℕ) (s at size : ℕ) → verdict (shape_check bs at size ∷ []) ≡ None → verdict (upto (byte_at bs at) (fanin_checks bs s at)) ≡ None → verdict (record_checks bs s at size) ≡ verdict (stray_check bs (byte_at bs at) (at + 1 + 2 * byte_at bs at) ∷ [])
+record-end bs s at size e h =
+    let rest = stray_check bs (byte_at bs at) (at + 1 + 2 * byte_at bs at) ∷ [] in
+    append-pass (shape_check bs at size ∷ []) (upto (byte_at bs at) (fanin_checks bs s at) ++ rest) e
+    ∙ append-pass (upto (byte_at bs at) (fanin_checks bs s at)) rest h
 
 -- what each part says where all pass
 pub none_left : (xs ys : List Check) → verdict (xs ++ ys) ≡ None → verdict xs ≡ None
@@ -104,5 +104,20 @@ at-end bs d h o p e = at_rest bs h o p ∙ ap (λ x. or_else x (verdict (upto (n
 pub at_records : (bs : List ℕ) → verdict (head_checks bs) ≡ None → verdict (upto (outputs_of bs) (output_checks bs)) ≡ None → verdict (upto (nodes_of bs) (pair_checks bs)) ≡ None → verdict (end_checks bs) ≡ None → verdict (checks bs) ≡ verdict (upto (nodes_of bs) (node_checks bs))
 at_records bs h o p e = at_rest bs h o p ∙ ap (λ x. or_else x (verdict (upto (nodes_of bs) (node_checks bs)))) e
 
-pub same-record : (bs : List ℕ) (n o s : ℕ) → o ≡ offset_of bs n → s ≡ length_of bs n → verdict (record_checks bs (inputs_of bs + n) o s) ≡ verdict (node_checks bs n)
-same-record bs n o s p q = ap (λ x. verdict (record_checks bs (inputs_of bs + n) x s)) p ∙ ap (λ x. verdict (record_checks bs (inputs_of bs + n) (offset_of bs n) x)) q
+pub same-record : (bs : List ℕ) (n i o s : ℕ) → i ≡ inputs_of bs → o ≡ offset_of bs n → s ≡ length_of bs n → verdict (record_checks bs (i + n) o s) ≡ verdict (node_checks bs n)
+same-record bs n i o s e p q = ap (λ x. verdict (record_checks bs (x + n) o s)) e ∙ ap (λ x. verdict (record_checks bs (inputs_of bs + n) x s)) p ∙ ap (λ x. verdict (record_checks bs (inputs_of bs + n) (offset_of bs n) x)) q
+
+-- a head that passes, by other bytes that are the same
+pub head-passes : (bs xs : List ℕ) → xs ≡ bs → None ≡ verdict (head_checks bs) → verdict (head_checks xs) ≡ None
+head-passes bs xs e h = ap (λ b. verdict (head_checks b)) e ∙ sym h
+
+-- the check of the same signal
+pub same-signal : (x y s t p q : ℕ) → x ≡ y → s ≡ t → p ≡ q → verdict (check (nat_lt x s) SignalRange p ∷ []) ≡ verdict (check (nat_lt y t) SignalRange q ∷ [])
+same-signal x y s t p q ex es ep = ap (λ v. verdict (check (nat_lt v s) SignalRange p ∷ [])) ex ∙ ap (λ v. verdict (check (nat_lt y v) SignalRange p ∷ [])) es ∙ ap (λ v. verdict (check (nat_lt y t) SignalRange v ∷ [])) ep
+
+-- the checks of the same record
+pub same-fanins : (xs ys : List ℕ) (s a b : ℕ) → xs ≡ ys → a ≡ b → verdict (upto (byte_at xs a) (fanin_checks xs s a)) ≡ verdict (upto (byte_at ys b) (fanin_checks ys s b))
+same-fanins xs ys s a b p q = ap (λ x. verdict (upto (byte_at x a) (fanin_checks x s a))) p ∙ ap (λ x. verdict (upto (byte_at ys x) (fanin_checks ys s x))) q
+
+pub same-stray : (xs ys : List ℕ) (a b : ℕ) → xs ≡ ys → a ≡ b → verdict (stray_check xs (byte_at xs a) (a + 1 + 2 * byte_at xs a) ∷ []) ≡ verdict (stray_check ys (byte_at ys b) (b + 1 + 2 * byte_at ys b) ∷ [])
+same-stray xs ys a b p q = ap (λ x. verdict (stray_check x (byte_at x a) (a + 1 + 2 * byte_at x a) ∷ [])) p ∙ ap (λ x. verdict (stray_check ys (byte_at ys x) (x + 1 + 2 * byte_at ys x) ∷ [])) q

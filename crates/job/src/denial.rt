@@ -1,9 +1,16 @@
 //! Why a job is not read or not written, and at which byte.
-ghost use Rattle.std.specs.Prelude.{◌≡◌};
-ghost use Rattle.job.specs.Causes.{number_of, Says};
+ghost use Rattle.std.specs.Prelude.{◌≡◌, [], ◌∷◌, Some};
+ghost use Rattle.std.specs.Result.{result_err};
+ghost use Rattle.job.specs.declared.denial.ReadError.TheVariants.{Refused, NoMemory};
+ghost use Rattle.job.specs.Checks.{check, verdict};
+ghost use Rattle.job.specs.Causes.{number_of, words_of, Says, refusal_text, error_text};
+
+use std::alloc::AllocError;
+use std::error::Error;
+use std::fmt;
 
 /// What is wrong. `specs/Causes.antt` gives each cause its number.
-#[derive(Clone, Copy, PartialEq, Eq, Drop)]
+#[derive(Clone, Copy, PartialEq, Eq, Debug, Drop)]
 pub enum Cause {
     /// The file ends in its head.
     HeadShort,
@@ -22,14 +29,14 @@ pub enum Cause {
 }
 
 /// A cause, and the first byte of the field at fault.
-#[derive(Clone, Copy, PartialEq, Eq, Drop)]
+#[derive(Clone, Copy, PartialEq, Eq, Debug, Drop)]
 pub struct Refusal {
     pub cause: Cause,
     pub place: usize,
 }
 
 /// Why no job came of some bytes.
-#[derive(Clone, Copy, Drop)]
+#[derive(Clone, Copy, PartialEq, Eq, Debug, Drop)]
 pub enum ReadError {
     Refused(Refusal),
     NoMemory,
@@ -65,3 +72,66 @@ impl Cause {
         }
     }
 }
+
+impl Refusal {
+    /// A check: refuses with a cause and a place unless it holds.
+    pub(crate) fn unless(holds: bool, cause: Cause, place: usize) -> Result<(), Refusal>
+        ensures { result_err result ≡ verdict (check holds cause place ∷ []) }
+    {
+        if holds {
+            Ok(())
+        } else {
+            Err(Refusal { cause, place })
+        }
+    }
+}
+
+impl From<Refusal> for ReadError {
+    ghost from_gives = { λ r e. e ≡ Refused r };
+
+    fn from(refusal: Refusal) -> ReadError {
+        ReadError::Refused(refusal)
+    }
+}
+
+impl From<AllocError> for ReadError {
+    ghost from_gives = { λ _ e. e ≡ NoMemory };
+
+    fn from(_: AllocError) -> ReadError {
+        ReadError::NoMemory
+    }
+}
+
+impl fmt::Display for Cause {
+    ghost output = { λ cause. Some (words_of cause) };
+
+    fn fmt<W: fmt::Write>(&self, f: &mut fmt::Formatter<W>) -> fmt::Result {
+        f.write_str(self.words())
+    }
+}
+
+impl fmt::Display for Refusal {
+    ghost output = { λ refusal. Some (refusal_text refusal) };
+
+    fn fmt<W: fmt::Write>(&self, f: &mut fmt::Formatter<W>) -> fmt::Result {
+        let number = self.cause.number();
+        write!(f, "{number} at {}: {}", self.place, self.cause)
+    }
+}
+
+impl fmt::Display for ReadError {
+    ghost output = { λ error. Some (error_text error) };
+
+    fn fmt<W: fmt::Write>(&self, f: &mut fmt::Formatter<W>) -> fmt::Result {
+        match self {
+            ReadError::Refused(refusal) => write!(f, "refused: {refusal}"),
+            ReadError::NoMemory => write!(f, "no memory"),
+        }
+    }
+}
+
+impl Error for Cause {}
+
+impl Error for Refusal {}
+
+impl Error for ReadError {}

@@ -1,164 +1,37 @@
 //! The checks of a job file.
-ghost use Rattle.std.specs.Prelude.{◌≡◌, ℕ, ◌+◌, ◌-◌, ◌*◌, ◌/◌, ◌%◌, ◌^◌, ◌<◌, ◌≤◌, min, [], ◌∷◌, ◌++◌, length, IfOk, None, nat_lt};
+ghost use Rattle.std.specs.Prelude.{◌≡◌, ℕ, ◌+◌, ◌*◌, ◌^◌, ◌<◌, ◌≤◌, min, [], ◌∷◌, length, IfOk, None, nat_lt};
 ghost use Rattle.std.specs.Result.{result_err};
-ghost use Rattle.job.specs.Checks.{verdict, upto, byte_at, word_at, inputs_of, outputs_of, nodes_of, head_end, width_of, fanin_check, fanin_checks, node_checks, due_of, offset_of, length_of, head_checks, output_checks, pair_checks, end_checks, record_checks, checks};
+ghost use Rattle.job.specs.Checks.{verdict, upto, byte_at, outputs_of, nodes_of, fanin_checks, node_checks, due_of, offset_of, length_of, head_checks, output_checks, pair_checks, end_checks, shape_check, stray_check, record_checks, checks};
 
 use crate::denial::{Cause, Refusal};
+use crate::fields::{Head, Passed, Record, record_len, word};
 use crate::job::MAX_OUTPUTS;
 use network::limits::{MAX_FANINS, MAX_INPUTS, MAX_NODES};
 
-pub fn word(bytes: &[u8], at: usize) -> u16
-    requires { at + 1 < length bytes.now }
-    ensures { result ≡ word_at bytes.now at }
+fn check_head(bytes: &[u8]) -> Result<Head<'_>, Refusal>
+    ensures judged { result_err result ≡ verdict (head_checks bytes.now) }
+    ensures same { IfOk result (λ h. h.bytes.now ≡ bytes.now) }
 {
-    bytes[at] as u16 + 256 * bytes[at + 1] as u16
+    Refusal::unless(bytes.len() >= 4, Cause::HeadShort, bytes.len())?;
+    let inputs = usize::from(bytes[0]);
+    Refusal::unless(inputs <= MAX_INPUTS, Cause::CountRange, 0)?;
+    let outputs = usize::from(bytes[1]);
+    Refusal::unless(outputs >= 1 && outputs <= MAX_OUTPUTS, Cause::CountRange, 1)?;
+    let nodes = usize::from(word(bytes, 2));
+    Refusal::unless(nodes <= MAX_NODES, Cause::CountRange, 2)?;
+    let end = 4 + 4 * nodes + 2 * outputs;
+    Refusal::unless(end <= bytes.len(), Cause::HeadShort, bytes.len())?;
+    Ok(Head { bytes })
 }
 
-fn check_head(bytes: &[u8]) -> Result<(), Refusal>
-    ensures { result_err result ≡ verdict (head_checks bytes.now) }
+fn check_shape(bytes: &[u8], at: usize, size: usize) -> Result<Record<'_>, Refusal>
+    requires { at + size ≤ length bytes.now }
+    ensures judged { result_err result ≡ verdict (shape_check bytes.now at size ∷ []) }
+    ensures same { IfOk result (λ r. (r.bytes.now ≡ bytes.now) × (r.at ≡ at)) }
 {
-    if bytes.len() < 4 {
-        return Err(Refusal {
-            cause: Cause::HeadShort,
-            place: bytes.len(),
-        });
-    }
-    if bytes[0] as usize > MAX_INPUTS {
-        return Err(Refusal {
-            cause: Cause::CountRange,
-            place: 0,
-        });
-    }
-    if bytes[1] == 0 || bytes[1] as usize > MAX_OUTPUTS {
-        return Err(Refusal {
-            cause: Cause::CountRange,
-            place: 1,
-        });
-    }
-    let nodes = word(bytes, 2) as usize;
-    if nodes > MAX_NODES {
-        return Err(Refusal {
-            cause: Cause::CountRange,
-            place: 2,
-        });
-    }
-    if bytes.len() < 4 + 4 * nodes + 2 * bytes[1] as usize {
-        return Err(Refusal {
-            cause: Cause::HeadShort,
-            place: bytes.len(),
-        });
-    }
-    Ok(())
-}
-
-fn check_outputs(bytes: &[u8]) -> Result<(), Refusal>
-    requires four { 4 ≤ length bytes.now }
-    requires head { head_end bytes.now ≤ length bytes.now }
-    ensures { result_err result ≡ verdict (upto (outputs_of bytes.now) (output_checks bytes.now)) }
-{
-    let nodes = word(bytes, 2) as usize;
-    let signals = bytes[0] as usize + nodes;
-    for j in 0..bytes[1] as usize {
-        let place = 4 + 4 * nodes + 2 * j;
-        if word(bytes, place) as usize >= signals {
-            return Err(Refusal {
-                cause: Cause::SignalRange,
-                place,
-            });
-        }
-    }
-    Ok(())
-}
-
-/// Where the record of pair n ends; it is due to start at `due`.
-fn check_pair(bytes: &[u8], n: usize, due: usize) -> Result<usize, Refusal>
-    requires within { 8 + 4 * n ≤ length bytes.now }
-    requires due { due ≡ due_of bytes.now n }
-    ensures judged { result_err result ≡ verdict (pair_checks bytes.now n) }
-    ensures end { IfOk result (λ e. e ≡ offset_of bytes.now n + length_of bytes.now n) }
-{
-    let offset = word(bytes, 4 + 4 * n) as usize;
-    let size = word(bytes, 6 + 4 * n) as usize;
-    if offset != due {
-        return Err(Refusal {
-            cause: Cause::PairLine,
-            place: 4 + 4 * n,
-        });
-    }
-    if offset + size > bytes.len() {
-        return Err(Refusal {
-            cause: Cause::PairLine,
-            place: 6 + 4 * n,
-        });
-    }
-    Ok(offset + size)
-}
-
-/// Where the last record ends.
-fn check_pairs(bytes: &[u8]) -> Result<usize, Refusal>
-    requires four { 4 ≤ length bytes.now }
-    requires head { head_end bytes.now ≤ length bytes.now }
-    ensures judged { result_err result ≡ verdict (upto (nodes_of bytes.now) (pair_checks bytes.now)) }
-    ensures end { IfOk result (λ e. e ≡ due_of bytes.now (nodes_of bytes.now)) }
-{
-    let nodes = word(bytes, 2) as usize;
-    let mut due = 4 + 4 * nodes + 2 * bytes[1] as usize;
-    for n in 0..nodes {
-        due = check_pair(bytes, n, due)?;
-    }
-    Ok(due)
-}
-
-fn check_end(bytes: &[u8], due: usize) -> Result<(), Refusal>
-    requires head { head_end bytes.now ≤ length bytes.now }
-    requires four { 4 ≤ length bytes.now }
-    requires due { due ≡ due_of bytes.now (nodes_of bytes.now) }
-    ensures { result_err result ≡ verdict (end_checks bytes.now) }
-{
-    if due == bytes.len() {
-        return Ok(());
-    }
-    let nodes = word(bytes, 2) as usize;
-    let place = if nodes == 0 {
-        4 + 2 * bytes[1] as usize
-    } else {
-        2 + 4 * nodes
-    };
-    Err(Refusal {
-        cause: Cause::PairLine,
-        place,
-    })
-}
-
-fn check_fanin(bytes: &[u8], signal: usize, place: usize) -> Result<(), Refusal>
-    requires { place + 1 < length bytes.now }
-    ensures { result_err result ≡ verdict (fanin_check bytes.now signal place ∷ []) }
-{
-    if word(bytes, place) as usize >= signal {
-        return Err(Refusal {
-            cause: Cause::SignalRange,
-            place,
-        });
-    }
-    Ok(())
-}
-
-/// Function bytes of a node with f fanins.
-pub fn width(f: u8) -> usize
-    requires { f ≤ 8 }
-    ensures { result ≡ width_of f }
-{
-    1usize.max((1usize << f) / 8)
-}
-
-fn check_fanins(bytes: &[u8], signal: usize, at: usize, f: u8) -> Result<(), Refusal>
-    requires { at + 1 + 2 * f ≤ length bytes.now }
-    ensures { result_err result ≡ verdict (upto f (fanin_checks bytes.now signal at)) }
-{
-    for i in 0..f as usize {
-        check_fanin(bytes, signal, at + 1 + 2 * i)?;
-    }
-    Ok(())
+    let fits = size > 0 && usize::from(bytes[at]) <= MAX_FANINS && size == record_len(bytes[at]);
+    Refusal::unless(fits, Cause::RecordShape, at)?;
+    Ok(Record { bytes, at })
 }
 
 /// Whether a function's first byte has no bit at or above 2^f.
@@ -173,53 +46,105 @@ fn is_clean_byte(f: u8, byte: u8) -> bool
     }
 }
 
+impl Record<'_> {
+    fn check_fanins(&self, signal: usize) -> Result<(), Refusal>
+        ensures { result_err result ≡ verdict (upto (byte_at self.now.bytes.now self.now.at) (fanin_checks self.now.bytes.now signal self.now.at)) }
+    {
+        for i in 0..usize::from(self.count()) {
+            let fanin = usize::from(self.fanin(i));
+            Refusal::unless(fanin < signal, Cause::SignalRange, self.fanin_place(i))?;
+        }
+        Ok(())
+    }
+
+    fn check_stray(&self) -> Result<(), Refusal>
+        ensures { result_err result ≡ verdict (stray_check self.now.bytes.now (byte_at self.now.bytes.now self.now.at) (self.now.at + 1 + 2 * byte_at self.now.bytes.now self.now.at) ∷ []) }
+    {
+        let f = self.count();
+        let place = self.fanin_place(usize::from(f));
+        Refusal::unless(is_clean_byte(f, self.bytes[place]), Cause::StrayBit, place)
+    }
+}
+
 fn check_record(bytes: &[u8], signal: usize, at: usize, size: usize) -> Result<(), Refusal>
     requires { at + size ≤ length bytes.now }
     ensures { result_err result ≡ verdict (record_checks bytes.now signal at size) }
 {
-    if size == 0
-        || bytes[at] as usize > MAX_FANINS
-        || size != 1 + 2 * bytes[at] as usize + width(bytes[at])
-    {
-        return Err(Refusal {
-            cause: Cause::RecordShape,
-            place: at,
-        });
-    }
-    let f = bytes[at];
-    check_fanins(bytes, signal, at, f)?;
-    let place = at + 1 + 2 * f as usize;
-    if !is_clean_byte(f, bytes[place]) {
-        return Err(Refusal {
-            cause: Cause::StrayBit,
-            place,
-        });
-    }
-    Ok(())
+    let shaped = check_shape(bytes, at, size)?;
+    shaped.check_fanins(signal)?;
+    shaped.check_stray()
 }
 
-fn check_records(bytes: &[u8]) -> Result<(), Refusal>
-    requires four { 4 ≤ length bytes.now }
-    requires head { head_end bytes.now ≤ length bytes.now }
-    requires pairs { verdict (upto (nodes_of bytes.now) (pair_checks bytes.now)) ≡ None }
-    ensures { result_err result ≡ verdict (upto (nodes_of bytes.now) (node_checks bytes.now)) }
-{
-    let inputs = bytes[0] as usize;
-    for n in 0..word(bytes, 2) as usize {
-        let offset = word(bytes, 4 + 4 * n) as usize;
-        let size = word(bytes, 6 + 4 * n) as usize;
-        check_record(bytes, inputs + n, offset, size)?;
+impl Head<'_> {
+    fn check_outputs(&self) -> Result<(), Refusal>
+        ensures { result_err result ≡ verdict (upto (outputs_of self.now.bytes.now) (output_checks self.now.bytes.now)) }
+    {
+        let signals = self.inputs() + self.nodes();
+        for j in 0..self.outputs() {
+            let output = usize::from(self.output(j));
+            Refusal::unless(output < signals, Cause::SignalRange, self.output_place(j))?;
+        }
+        Ok(())
     }
-    Ok(())
+
+    /// Where the record of pair n ends; it is due to start at `due`.
+    fn check_pair(&self, n: usize, due: usize) -> Result<usize, Refusal>
+        requires within { n < nodes_of self.now.bytes.now }
+        requires due { due ≡ due_of self.now.bytes.now n }
+        ensures judged { result_err result ≡ verdict (pair_checks self.now.bytes.now n) }
+        ensures end { IfOk result (λ e. e ≡ offset_of self.now.bytes.now n + length_of self.now.bytes.now n) }
+    {
+        let offset = self.offset(n);
+        Refusal::unless(offset == due, Cause::PairLine, 4 + 4 * n)?;
+        let end = offset + self.length(n);
+        Refusal::unless(end <= self.bytes.len(), Cause::PairLine, 6 + 4 * n)?;
+        Ok(end)
+    }
+
+    /// Where the last record ends.
+    fn check_pairs(&self) -> Result<usize, Refusal>
+        ensures judged { result_err result ≡ verdict (upto (nodes_of self.now.bytes.now) (pair_checks self.now.bytes.now)) }
+        ensures end { IfOk result (λ e. e ≡ due_of self.now.bytes.now (nodes_of self.now.bytes.now)) }
+    {
+        let mut due = self.end();
+        for n in 0..self.nodes() {
+            due = self.check_pair(n, due)?;
+        }
+        Ok(due)
+    }
+
+    fn check_end(&self, due: usize) -> Result<(), Refusal>
+        requires { due ≡ due_of self.now.bytes.now (nodes_of self.now.bytes.now) }
+        ensures { result_err result ≡ verdict (end_checks self.now.bytes.now) }
+    {
+        let place = match self.nodes() {
+            0 => self.end(),
+            nodes => 2 + 4 * nodes,
+        };
+        Refusal::unless(due == self.bytes.len(), Cause::PairLine, place)
+    }
+
+    fn check_records(&self) -> Result<(), Refusal>
+        requires { verdict (upto (nodes_of self.now.bytes.now) (pair_checks self.now.bytes.now)) ≡ None }
+        ensures { result_err result ≡ verdict (upto (nodes_of self.now.bytes.now) (node_checks self.now.bytes.now)) }
+    {
+        let inputs = self.inputs();
+        for n in 0..self.nodes() {
+            check_record(self.bytes, inputs + n, self.offset(n), self.length(n))?;
+        }
+        Ok(())
+    }
 }
 
 /// Whether the bytes are a job, or the first fault.
-pub fn judge(bytes: &[u8]) -> Result<(), Refusal>
-    ensures { result_err result ≡ verdict (checks bytes.now) }
+pub(crate) fn judge(bytes: &[u8]) -> Result<Passed<'_>, Refusal>
+    ensures judged { result_err result ≡ verdict (checks bytes.now) }
+    ensures same { IfOk result (λ p. p.head.bytes.now ≡ bytes.now) }
 {
-    check_head(bytes)?;
-    check_outputs(bytes)?;
-    let due = check_pairs(bytes)?;
-    check_end(bytes, due)?;
-    check_records(bytes)
+    let head = check_head(bytes)?;
+    head.check_outputs()?;
+    let due = head.check_pairs()?;
+    head.check_end(due)?;
+    head.check_records()?;
+    Ok(Passed { head })
 }

@@ -2,6 +2,7 @@
 #![tactic(auto)]
 
 pub mod denial;
+mod fields;
 pub mod job;
 mod judge;
 mod load;

@@ -1,131 +1,110 @@
 //! Reading a job that has passed every check.
-ghost use Rattle.std.specs.Prelude.{◌≡◌, ℕ, ◌+◌, ◌-◌, ◌*◌, ◌<◌, ◌≤◌, length, IfOk, None, OnOk, slice_index, slice_index_or};
-ghost use Rattle.network.specs.Limits.{max_fanins, max_nodes, function_bytes};
-ghost use Rattle.network.specs.Nets.{nodes, size, bare, with_row, with_output};
+ghost use Rattle.std.specs.Prelude.{◌≡◌, ℕ, ◌+◌, ◌*◌, ◌<◌, ◌≤◌, cond, length, nat_lt, IfOk, OnOk, slice_index, slice_index_or};
+ghost use Rattle.network.specs.Limits.{max_fanins, function_bytes};
+ghost use Rattle.network.specs.Nets.{bare};
 ghost use Rattle.network.specs.Parts.{net_of};
-ghost use Rattle.network.specs.Rows.{no_signal, Legal};
-ghost use Rattle.job.specs.Checks.{byte_at, word_at, inputs_of, nodes_of, outputs_of, width_of, record_size, verdict, checks};
+ghost use Rattle.network.specs.Rows.{no_signal};
+ghost use Rattle.job.specs.Checks.{byte_at, word_at, inputs_of, nodes_of, outputs_of, width_of, offset_of, output_place};
 ghost use Rattle.job.specs.Bytes.{encode};
 ghost use Rattle.job.specs.Loads.{RowLoaded, RowsLoaded, OutputsLoaded};
 
-use crate::judge::{width, word};
+use crate::fields::{Passed, Record};
 use network::limits::{FUNCTION_BYTES, MAX_FANINS};
-use network::network::{Network, PushError};
+use network::network::Network;
 use network::row::{Function, Row, Signal};
 use std::alloc::{AllocError, Global};
+use std::array;
 
-/// The fanins whose words start at a place, and 0 past them.
-fn load_fanins(bytes: &[u8], at: usize, count: usize) -> [Signal; MAX_FANINS]
-    requires few { count ≤ max_fanins }
-    requires within { at + 2 * count ≤ length bytes.now }
-    ensures words { (i : ℕ) → i < count → (slice_index_or result i no_signal).0 ≡ word_at bytes.now (at + 2 * i) }
-    ensures unused { (i : ℕ) → count ≤ i → (slice_index_or result i no_signal).0 ≡ 0 }
-    ensures places { length result ≡ max_fanins }
-{
-    let mut fanins = [Signal(0); MAX_FANINS];
-    for i in 0..count {
-        fanins[i] = Signal(word(bytes, at + 2 * i));
+impl Record<'_> {
+    /// Fanin i, and 0 past the last.
+    fn fanin_or_none(&self, i: usize) -> u16
+        ensures { result ≡ cond (nat_lt i (byte_at self.now.bytes.now self.now.at)) (word_at self.now.bytes.now (self.now.at + 1 + 2 * i)) 0 }
+    {
+        if i < usize::from(self.count()) {
+            self.fanin(i)
+        } else {
+            0
+        }
     }
-    fanins
-}
 
-/// The function whose bytes start at a place, and 0 past them.
-fn load_function(bytes: &[u8], at: usize, wide: usize) -> Function
-    requires few { wide ≤ function_bytes }
-    requires within { at + wide ≤ length bytes.now }
-    ensures bytes { (k : ℕ) → k < wide → slice_index result.bytes k ≡ byte_at bytes.now (at + k) }
-    ensures unused { (k : ℕ) → wide ≤ k → slice_index result.bytes k ≡ 0 }
-    ensures places { length result.bytes ≡ function_bytes }
-{
-    let mut table = [0u8; FUNCTION_BYTES];
-    for k in 0..wide {
-        table[k] = bytes[at + k];
+    /// Its fanins, and 0 past them.
+    fn load_fanins(&self) -> [Signal; MAX_FANINS]
+        ensures words { (i : ℕ) → i < byte_at self.now.bytes.now self.now.at → (slice_index_or result i no_signal).0 ≡ word_at self.now.bytes.now (self.now.at + 1 + 2 * i) }
+        ensures unused { (i : ℕ) → byte_at self.now.bytes.now self.now.at ≤ i → (slice_index_or result i no_signal).0 ≡ 0 }
+        ensures places { length result ≡ max_fanins }
+    {
+        array::from_fn(|i| Signal(self.fanin_or_none(i)))
     }
-    Function { bytes: table }
-}
 
-/// The row of the record at a place.
-fn load_row(bytes: &[u8], at: usize) -> Row
-    requires few { byte_at bytes.now at ≤ max_fanins }
-    requires within { at + record_size (byte_at bytes.now at) ≤ length bytes.now }
-    ensures { RowLoaded bytes.now at result }
-{
-    let count = bytes[at];
-    let wide = width(count);
-    let fanins = load_fanins(bytes, at + 1, count as usize);
-    let function = load_function(bytes, at + 1 + 2 * count as usize, wide);
-    Row {
-        count,
-        fanins,
-        function,
+    /// Its function, with 0 past its bytes.
+    fn load_function(&self) -> Function
+        ensures bytes { (k : ℕ) → k < width_of (byte_at self.now.bytes.now self.now.at) → slice_index result.bytes k ≡ byte_at self.now.bytes.now (self.now.at + 1 + 2 * byte_at self.now.bytes.now self.now.at + k) }
+        ensures unused { (k : ℕ) → width_of (byte_at self.now.bytes.now self.now.at) ≤ k → slice_index result.bytes k ≡ 0 }
+        ensures places { length result.bytes ≡ function_bytes }
+    {
+        let mut bytes = [0u8; FUNCTION_BYTES];
+        let known = self.function();
+        bytes[..known.len()].copy_from_slice(known);
+        Function { bytes }
     }
 }
 
-/// One node more, whose row is known to be legal.
-fn push_legal(network: &mut Network, row: Row) -> Result<(), AllocError>
-    requires room { nodes (net_of network.old) < max_nodes }
-    requires legal { Legal (size (net_of network.old)) row }
-    ensures { OnOk result (net_of network.new ≡ with_row (net_of network.old) row) }
-{
-    match network.push_row(row) {
-        Ok(()) => Ok(()),
-        Err(PushError::NoMemory) => Err(AllocError),
-        Err(PushError::Full) => unreachable(),
-        Err(PushError::Illegal) => unreachable(),
-        Err(PushError::NoSignal) => unreachable(),
+impl<'a> Passed<'a> {
+    /// The record of node n.
+    fn record_at(&self, n: usize) -> Record<'a>
+        requires { n < nodes_of self.now.head.bytes.now }
+        ensures bytes { result.bytes.now ≡ self.now.head.bytes.now }
+        ensures place { result.at ≡ offset_of self.now.head.bytes.now n }
+    {
+        Record {
+            bytes: self.head.bytes,
+            at: self.head.offset(n),
+        }
     }
-}
 
-/// One output more, which is known to be a signal.
-fn push_signal(network: &mut Network, signal: Signal) -> Result<(), AllocError>
-    requires { signal.0 < size (net_of network.old) }
-    ensures { OnOk result (net_of network.new ≡ with_output (net_of network.old) signal) }
-{
-    match network.push_output(signal) {
-        Ok(()) => Ok(()),
-        Err(PushError::NoMemory) => Err(AllocError),
-        Err(PushError::Full) => unreachable(),
-        Err(PushError::Illegal) => unreachable(),
-        Err(PushError::NoSignal) => unreachable(),
+    /// The row of node n.
+    fn load_row(&self, n: usize) -> Row
+        requires { n < nodes_of self.now.head.bytes.now }
+        ensures { RowLoaded self.now.head.bytes.now (offset_of self.now.head.bytes.now n) result }
+    {
+        let found = self.record_at(n);
+        Row {
+            count: found.count(),
+            fanins: found.load_fanins(),
+            function: found.load_function(),
+        }
     }
-}
 
-/// All nodes.
-fn load_rows(bytes: &[u8], network: &mut Network) -> Result<(), AllocError>
-    requires passed { verdict (checks bytes.now) ≡ None }
-    requires bare { net_of network.old ≡ bare (inputs_of bytes.now) }
-    ensures { OnOk result (RowsLoaded bytes.now (nodes_of bytes.now) (net_of network.new)) }
-{
-    for n in 0..word(bytes, 2) as usize {
-        let at = word(bytes, 4 + 4 * n) as usize;
-        push_legal(network, load_row(bytes, at))?;
+    /// All nodes.
+    fn load_rows(&self, network: &mut Network) -> Result<(), AllocError>
+        requires { net_of network.old ≡ bare (inputs_of self.now.head.bytes.now) }
+        ensures { OnOk result (RowsLoaded self.now.head.bytes.now (nodes_of self.now.head.bytes.now) (net_of network.new)) }
+    {
+        for n in 0..self.head.nodes() {
+            network.append_row(self.load_row(n))?;
+        }
+        Ok(())
     }
-    Ok(())
-}
 
-/// All outputs.
-fn load_outputs(bytes: &[u8], network: &mut Network) -> Result<(), AllocError>
-    requires passed { verdict (checks bytes.now) ≡ None }
-    requires rows { RowsLoaded bytes.now (nodes_of bytes.now) (net_of network.old) }
-    ensures { OnOk result (OutputsLoaded bytes.now (outputs_of bytes.now) (net_of network.new)) }
-{
-    let first = 4 + 4 * word(bytes, 2) as usize;
-    for j in 0..bytes[1] as usize {
-        push_signal(network, Signal(word(bytes, first + 2 * j)))?;
+    /// All outputs.
+    fn load_outputs(&self, network: &mut Network) -> Result<(), AllocError>
+        requires { RowsLoaded self.now.head.bytes.now (nodes_of self.now.head.bytes.now) (net_of network.old) }
+        ensures { OnOk result (OutputsLoaded self.now.head.bytes.now (outputs_of self.now.head.bytes.now) (net_of network.new)) }
+    {
+        for j in 0..self.head.outputs() {
+            network.append_output(Signal(self.head.output(j)))?;
+        }
+        Ok(())
     }
-    Ok(())
-}
 
-/// The network of a file that passes every check.
-pub fn load(heap: Global, bytes: &[u8]) -> Result<Network, AllocError>
-    requires { verdict (checks bytes.now) ≡ None }
-    ensures same { IfOk result (λ n. encode (net_of n) ≡ bytes.now) }
-    ensures outputs { IfOk result (λ n. length (net_of n).outputs ≡ outputs_of bytes.now) }
-{
-    let Some(mut network) = Network::new(heap, bytes[0] as usize) else {
-        return unreachable();
-    };
-    load_rows(bytes, &mut network)?;
-    load_outputs(bytes, &mut network)?;
-    Ok(network)
+    /// The network of the file.
+    pub(crate) fn load(&self, heap: Global) -> Result<Network, AllocError>
+        ensures same { IfOk result (λ n. encode (net_of n) ≡ self.now.head.bytes.now) }
+        ensures outputs { IfOk result (λ n. length (net_of n).outputs ≡ outputs_of self.now.head.bytes.now) }
+    {
+        let mut network = Network::new(heap, self.head.inputs()).unwrap();
+        self.load_rows(&mut network)?;
+        self.load_outputs(&mut network)?;
+        Ok(network)
+    }
 }

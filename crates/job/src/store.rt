@@ -6,7 +6,7 @@ ghost use Rattle.network.specs.Parts.{net_of};
 ghost use Rattle.job.specs.Checks.{max_outputs, max_file_length, record_size};
 ghost use Rattle.job.specs.Bytes.{le16, signal_bytes, record_bytes, sizes, pairs_from, splice, encode};
 
-use crate::judge::width;
+use crate::fields::{record_len, width};
 use network::network::Network;
 use network::row::{Row, Signal};
 
@@ -35,14 +35,6 @@ fn put_bytes(out: &mut [u8], at: usize, src: &[u8])
     out[at..end].copy_from_slice(src);
 }
 
-/// The length of a row's record.
-fn record_len(row: &Row) -> usize
-    requires { row.now.count ≤ max_fanins }
-    ensures { result ≡ record_size row.now.count }
-{
-    1 + 2 * row.count as usize + width(row.count)
-}
-
 /// Writes the record of a row.
 fn put_record(out: &mut [u8], at: usize, row: &Row)
     requires few { row.now.count ≤ max_fanins }
@@ -64,7 +56,7 @@ fn records_len(network: &Network) -> usize
     let rows = network.rows();
     let mut len = 0;
     for n in 0..rows.len() {
-        len += record_len(&rows[n]);
+        len += record_len(rows[n].count);
     }
     len
 }
@@ -78,7 +70,7 @@ fn put_pairs(out: &mut [u8], network: &Network, first: usize)
     let rows = network.rows();
     let mut at = first;
     for n in 0..rows.len() {
-        let len = record_len(&rows[n]);
+        let len = record_len(rows[n].count);
         put_word(out, 4 + 4 * n, at as u16);
         put_word(out, 6 + 4 * n, len as u16);
         at += len;
@@ -94,7 +86,7 @@ fn put_records(out: &mut [u8], network: &Network, first: usize)
     let mut at = first;
     for n in 0..rows.len() {
         put_record(out, at, &rows[n]);
-        at += record_len(&rows[n]);
+        at += record_len(rows[n].count);
     }
 }
 

@@ -10,7 +10,6 @@ ghost use Rattle.job.specs.Jobs.{job_net, Reads, Writes, Reopens, WritesBack};
 use super::{Job, MAX_OUTPUTS};
 use crate::denial::{Cause, ReadError};
 use crate::judge::judge;
-use crate::load::load;
 use crate::store::{file_len, store};
 use network::network::Network;
 use network::row::Function;
@@ -46,16 +45,8 @@ impl Job {
     fn read_file(heap: Global, bytes: &[u8]) -> Result<Job, ReadError>
         ensures { Reads bytes.now result }
     {
-        if let Err(refusal) = judge(bytes) {
-            return Err(ReadError::Refused(refusal));
-        }
-        match load(heap, bytes) {
-            Ok(network) => match Job::from_network(network) {
-                Some(job) => Ok(job),
-                None => unreachable(),
-            },
-            Err(_) => Err(ReadError::NoMemory),
-        }
+        let network = judge(bytes)?.load(heap)?;
+        Ok(Job { network })
     }
 
     /// Reads a job file. What is read is written back as the same bytes.

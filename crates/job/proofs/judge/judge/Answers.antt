@@ -1,19 +1,38 @@
-use Rattle.std.proofs.Common.{sym, ◌∙◌}
+use Rattle.std.proofs.Common.{◌≡◌, None, sym, ap, ◌∙◌}
 use Rattle.std.proofs.lemmas.Result.{err_from_is_err_and}
-use Rattle.job.proofs.Verdicts.{at-outputs, at-pairs, at-end, at_records}
+use Rattle.job.specs.Checks.{verdict, checks}
+use Rattle.job.proofs.Verdicts.{head-passes, at-outputs, at-pairs, at-end, at_records}
 use Rattle.job.proofs.judge.judge.Goals as goal
 
-pub returns-in_err-check_outputs : goal.returns-in_err-check_outputs
-returns-in_err-check_outputs c = let p = err_from_is_err_and c.from_residual-in_err-check_outputs.result c.from_residual-in_err-check_outputs.ensures.1 in
-    rw (p.1, p.2) (sym (at-outputs c.args.bytes.now _ (sym c.in_ok-check_head.ensures) (sym c.in_err-check_outputs.ensures)))
+pub returns-in_err-check_outputs-clause-judged : goal.returns-in_err-check_outputs-clause-judged
+returns-in_err-check_outputs-clause-judged c =
+    let bs = c.in_ok-head.head.bytes.now in
+    let same = c.in_ok-head.ensures.same in
+    let p = err_from_is_err_and c.from_residual-in_err-check_outputs.result c.from_residual-in_err-check_outputs.ensures.1 in
+    rw (p.1, p.2) (sym (at-outputs bs _ (head-passes _ bs same c.in_ok-head.ensures.judged) (sym c.in_err-check_outputs.ensures)) ∙ ap (λ b. verdict (checks b)) same)
 
-pub returns-in_err-due : goal.returns-in_err-due
-returns-in_err-due c = let p = err_from_is_err_and c.from_residual-in_err-due.result c.from_residual-in_err-due.ensures.1 in
-    rw (p.1, p.2) (sym (at-pairs c.args.bytes.now _ (sym c.in_ok-check_head.ensures) (sym c.in_ok-check_outputs.ensures) (sym c.in_err-due.ensures.judged)))
+pub returns-in_err-due-clause-judged : goal.returns-in_err-due-clause-judged
+returns-in_err-due-clause-judged c =
+    let bs = c.in_ok-head.head.bytes.now in
+    let same = c.in_ok-head.ensures.same in
+    let p = err_from_is_err_and c.from_residual-in_err-due.result c.from_residual-in_err-due.ensures.1 in
+    rw (p.1, p.2) (sym (at-pairs bs _ (head-passes _ bs same c.in_ok-head.ensures.judged) (sym c.in_ok-check_outputs.ensures) (sym c.in_err-due.ensures.judged)) ∙ ap (λ b. verdict (checks b)) same)
 
-pub returns-in_err-check_end : goal.returns-in_err-check_end
-returns-in_err-check_end c = let p = err_from_is_err_and c.from_residual-in_err-check_end.result c.from_residual-in_err-check_end.ensures.1 in
-    rw (p.1, p.2) (sym (at-end c.args.bytes.now _ (sym c.in_ok-check_head.ensures) (sym c.in_ok-check_outputs.ensures) (sym c.in_ok-due.ensures.judged) (sym c.in_err-check_end.ensures)))
+pub returns-in_err-check_end-clause-judged : goal.returns-in_err-check_end-clause-judged
+returns-in_err-check_end-clause-judged c =
+    let bs = c.in_ok-head.head.bytes.now in
+    let same = c.in_ok-head.ensures.same in
+    let p = err_from_is_err_and c.from_residual-in_err-check_end.result c.from_residual-in_err-check_end.ensures.1 in
+    rw (p.1, p.2) (sym (at-end bs _ (head-passes _ bs same c.in_ok-head.ensures.judged) (sym c.in_ok-check_outputs.ensures) (sym c.in_ok-due.ensures.judged) (sym c.in_err-check_end.ensures)) ∙ ap (λ b. verdict (checks b)) same)
 
-pub returns : goal.returns
-returns c = c.check_records.ensures ∙ sym (at_records c.args.bytes.now (sym c.in_ok-check_head.ensures) (sym c.in_ok-check_outputs.ensures) (sym c.in_ok-due.ensures.judged) (sym c.in_ok-check_end.ensures))
+pub returns-in_err-check_records-clause-judged : goal.returns-in_err-check_records-clause-judged
+returns-in_err-check_records-clause-judged c =
+    let bs = c.in_ok-head.head.bytes.now in
+    let same = c.in_ok-head.ensures.same in
+    let p = err_from_is_err_and c.from_residual-in_err-check_records.result c.from_residual-in_err-check_records.ensures.1 in
+    rw (p.1, p.2) (sym (at_records bs (head-passes _ bs same c.in_ok-head.ensures.judged) (sym c.in_ok-check_outputs.ensures) (sym c.in_ok-due.ensures.judged) (sym c.in_ok-check_end.ensures) ∙ sym c.in_err-check_records.ensures) ∙ ap (λ b. verdict (checks b)) same)
+
+pub invariant_of-result : goal.invariant_of-result
+invariant_of-result c =
+    let bs = c.in_ok-head.head.bytes.now in
+    record { passed = at_records bs (head-passes _ bs c.in_ok-head.ensures.same c.in_ok-head.ensures.judged) (sym c.in_ok-check_outputs.ensures) (sym c.in_ok-due.ensures.judged) (sym c.in_ok-check_end.ensures) ∙ sym c.in_ok-check_records.ensures }
