@@ -14,16 +14,15 @@ fn put_word(out: &mut [u8], at: usize, x: u16)
     requires { at + 2 ≤ length out.old }
     ensures { out.new ≡ splice out.old at (le16 x) }
 {
-    out[at] = (x % 256) as u8;
-    out[at + 1] = (x / 256) as u8;
+    put_bytes(out, at, &x.to_le_bytes());
 }
 
 fn put_signals(out: &mut [u8], at: usize, signals: &[Signal])
     requires { at + 2 * length signals.now ≤ length out.old }
     ensures { out.new ≡ splice out.old at (signal_bytes signals.now) }
 {
-    for i in 0..signals.len() {
-        put_word(out, at + 2 * i, signals[i].0);
+    for (i, signal) in signals.iter().enumerate() {
+        put_word(out, at + 2 * i, signal.0);
     }
 }
 
@@ -41,11 +40,11 @@ fn put_record(out: &mut [u8], at: usize, row: &Row)
     requires within { at + record_size row.now.count ≤ length out.old }
     ensures { out.new ≡ splice out.old at (record_bytes row.now) }
 {
-    let count = row.count as usize;
+    let count = usize::from(row.count);
     let wide = width(row.count);
     out[at] = row.count;
     put_signals(out, at + 1, &row.fanins[0..count]);
-    put_bytes(out, at + 1 + 2 * count, &row.function.bytes[0..wide]);
+    put_bytes(out, at + 1 + 2 * count, &row.function.bytes[..wide]);
 }
 
 /// How many bytes the records have.
@@ -53,10 +52,9 @@ fn records_len(network: &Network) -> usize
     ensures value { result ≡ sizes (net_of network.now).rows }
     ensures most { result ≤ 49 * length (net_of network.now).rows }
 {
-    let rows = network.rows();
     let mut len = 0;
-    for n in 0..rows.len() {
-        len += record_len(rows[n].count);
+    for row in network.rows() {
+        len += record_len(row.count);
     }
     len
 }
@@ -67,10 +65,9 @@ fn put_pairs(out: &mut [u8], network: &Network, first: usize)
     requires few { first + sizes (net_of network.now).rows < 65536 }
     ensures { out.new ≡ splice out.old 4 (pairs_from first (net_of network.now).rows) }
 {
-    let rows = network.rows();
     let mut at = first;
-    for n in 0..rows.len() {
-        let len = record_len(rows[n].count);
+    for (n, row) in network.rows().iter().enumerate() {
+        let len = record_len(row.count);
         put_word(out, 4 + 4 * n, at as u16);
         put_word(out, 6 + 4 * n, len as u16);
         at += len;
@@ -82,11 +79,10 @@ fn put_records(out: &mut [u8], network: &Network, first: usize)
     requires { first + sizes (net_of network.now).rows ≤ length out.old }
     ensures { out.new ≡ splice out.old first (flat_map record_bytes (net_of network.now).rows) }
 {
-    let rows = network.rows();
     let mut at = first;
-    for n in 0..rows.len() {
-        put_record(out, at, &rows[n]);
-        at += record_len(rows[n].count);
+    for row in network.rows() {
+        put_record(out, at, row);
+        at += record_len(row.count);
     }
 }
 

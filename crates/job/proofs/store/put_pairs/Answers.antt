@@ -10,13 +10,13 @@ use Rattle.job.proofs.Splices.{splice-none, splice-splice}
 use Rattle.job.proofs.store.put_pairs.Goals as goal
 
 pub loop-n-init : goal.loop-n-init
-loop-n-init c = (sym (splice-none c.args.out.now 4), sym (add-zero c.args.first))
+loop-n-init c = record { written = sym (splice-none c.args.out.now 4); place = sym (add-zero c.args.first) }
 
 pub overflow_cast-at : goal.overflow_cast-at
-overflow_cast-at c = omega (arith, record-ends c.rows-rows.result.now (net_of c.args.network.now).rows c.loop-n.n c.args.first c.loop-n.at 65535 c.rows-rows.ensures.value c.loop-n-test.true c.loop-n.invariant.1 (omega (arith, c.requires.few)))
+overflow_cast-at c = omega (arith, record-ends c.rows-row-items.result.now (net_of c.args.network.now).rows c.loop-n.n c.args.first c.loop-n.at 65535 c.rows-row-items.ensures.value c.loop-n-test.true c.loop-n.invariant.place (omega (arith, c.requires.few)))
 
 pub overflow_add-at : goal.overflow_add-at
-overflow_add-at c = omega (arith, record-ends c.rows-rows.result.now (net_of c.args.network.now).rows c.loop-n.n c.args.first c.loop-n.at 65535 c.rows-rows.ensures.value c.loop-n-test.true c.loop-n.invariant.1 (omega (arith, c.requires.few)), c.record_len-len.ensures)
+overflow_add-at c = omega (arith, record-ends c.rows-row-items.result.now (net_of c.args.network.now).rows c.loop-n.n c.args.first c.loop-n.at 65535 c.rows-row-items.ensures.value c.loop-n-test.true c.loop-n.invariant.place (omega (arith, c.requires.few)), c.record_len-len.ensures)
 
 -- two words more
 pair-more : (o u v w : List ℕ) (rs : List Row) (n first at len : ℕ) → n < length rs → 4 + 4 * n + 4 ≤ length o → u ≡ splice o 4 (pairs_from first (take n rs)) → at ≡ first + sizes (take n rs) → len ≡ record_size (get_or rs n blank).count →
@@ -32,16 +32,11 @@ pair-more o u v w rs n first at len l room eu ea el ev ew =
 
 pub loop-n-preserved : goal.loop-n-preserved
 loop-n-preserved c =
-    let rs = c.rows-rows.result.now in
+    let rs = c.rows-row-items.result.now in
     let n = c.loop-n.n in
     let l : n < length rs = c.loop-n-test.true in
-    let room : 4 + 4 * n + 4 ≤ length c.args.out.now = omega (arith, c.requires.within, ap length c.rows-rows.ensures.value) in (
-      pair-more c.args.out.now c.loop-n.out c.put_word.new.out c.put_word-in-loop-n.new.out rs n c.args.first c.loop-n.at c.record_len-len.result l room c.loop-n.invariant.0 c.loop-n.invariant.1 c.record_len-len.ensures c.put_word.ensures c.put_word-in-loop-n.ensures,
-      omega (arith, c.loop-n.invariant.1, c.record_len-len.ensures, sizes-more rs n l),
-    )
-
-pub returns : goal.returns
-returns c =
-    let rs = c.rows-rows.result.now in
-    let all : take c.loop-n.n rs ≡ (net_of c.args.network.now).rows = take_all c.loop-n.n rs c.loop-n-test.false ∙ c.rows-rows.ensures.value in
-    c.loop-n.invariant.0 ∙ ap (λ v. splice c.args.out.now 4 (pairs_from c.args.first v)) all
+    let room : 4 + 4 * n + 4 ≤ length c.args.out.now = omega (arith, c.requires.within, ap length c.rows-row-items.ensures.value) in
+    record {
+      written = pair-more c.args.out.now c.loop-n.out c.put_word.new.out c.put_word-in-loop-n.new.out rs n c.args.first c.loop-n.at c.record_len-len.result l room c.loop-n.invariant.written c.loop-n.invariant.place c.record_len-len.ensures c.put_word.ensures c.put_word-in-loop-n.ensures;
+      place = omega (arith, c.loop-n.invariant.place, c.record_len-len.ensures, sizes-more rs n l);
+    }

@@ -12,13 +12,11 @@ returns c =
     let o = c.args.out.now in
     let at = c.args.at in
     let n = r.count in
-    let wide = c.width-wide.result in
     let signals : List ℕ = signal_bytes (take n r.fanins) in
     let table : List ℕ = take (width_of n) r.function.bytes in
-    let z : n - 0 ≡ n = omega arith in
-    let w : wide - 0 ≡ width_of n = omega (arith, c.width-wide.ensures) in
-    let e1 : c.put_signals.new.out ≡ splice (set o at n) (at + 1) signals = c.put_signals.ensures ∙ ap (λ k. splice (set o at n) (at + 1) (signal_bytes (take k r.fanins))) z in
-    let e2 : c.put_bytes.new.out ≡ splice c.put_signals.new.out (at + 1 + 2 * n) table = c.put_bytes.ensures ∙ ap (λ k. splice c.put_signals.new.out (at + 1 + 2 * n) (take k r.function.bytes)) w in
+    let many : c.from-count.result - 0 ≡ n = omega (arith, c.from-count.ensures) in
     let long : length signals ≡ 2 * n = length-signals (take n r.fanins) ∙ ap (λ k. 2 * k) (length-take-le n r.fanins (omega arith)) in
+    let e1 : c.put_signals.new.out ≡ splice (set o at n) (at + 1) signals = c.put_signals.ensures ∙ ap (λ k. splice (set o at n) (at + 1) (signal_bytes (take k r.fanins))) many in
+    let e2 : c.put_bytes.new.out ≡ splice c.put_signals.new.out (at + 1 + 2 * n) table = c.put_bytes.ensures ∙ ap (λ k. splice c.put_signals.new.out (at + 1 + 2 * k) (take c.width-wide.result r.function.bytes)) c.from-count.ensures ∙ ap (λ k. splice c.put_signals.new.out (at + 1 + 2 * n) (take k r.function.bytes)) c.width-wide.ensures in
     e2 ∙ ap (λ v. splice v (at + 1 + 2 * n) table) (e1 ∙ ap (λ v. splice v (at + 1) signals) (splice-set o at n (omega arith)) ∙ splice-splice o at (at + 1) (n ∷ []) signals (omega arith) (omega arith))
     ∙ splice-splice o at (at + 1 + 2 * n) (n ∷ signals) table (omega arith) (omega arith)

@@ -15,8 +15,3 @@ loop-i-preserved c =
     let lt : c.loop-i.i < length xs = omega arith in
     let done : length (signal_bytes (take c.loop-i.i xs)) ≡ 2 * c.loop-i.i = length-signals (take c.loop-i.i xs) ∙ ap (λ n. 2 * n) (length-take-le c.loop-i.i xs (omega arith)) in
     splice-more (λ s. le16 s.0) xs c.loop-i.i no_signal c.args.out.now c.loop-i.out _ c.args.at (c.args.at + 2 * c.loop-i.i) lt c.loop-i.invariant (omega arith) (omega arith) c.put_word.ensures
-
-pub returns : goal.returns
-returns c =
-    let xs = c.args.signals.now in
-    c.loop-i.invariant ∙ ap (λ v. splice c.args.out.now c.args.at (signal_bytes v)) (take_all c.loop-i.i xs (omega arith))
