@@ -2,7 +2,6 @@ pub mod Verdicts
 pub mod Passed
 pub mod Segments
 pub mod Functions
-pub mod Arrays
 pub mod Sizes
 pub mod Loads
 pub mod Encoded

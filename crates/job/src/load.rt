@@ -13,7 +13,6 @@ use network::limits::{FUNCTION_BYTES, MAX_FANINS};
 use network::network::Network;
 use network::row::{Function, Row, Signal};
 use std::alloc::{AllocError, Global};
-use std::array;
 
 impl Record<'_> {
     /// Fanin i, and 0 past the last.
@@ -33,7 +32,11 @@ impl Record<'_> {
         ensures unused { (i : ℕ) → byte_at self.now.bytes.now self.now.at ≤ i → (slice_index_or result i no_signal).0 ≡ 0 }
         ensures places { length result ≡ max_fanins }
     {
-        array::from_fn(|i| Signal(self.fanin_or_none(i)))
+        let mut fanins = [Signal(0); MAX_FANINS];
+        for (i, fanin) in fanins.iter_mut().enumerate() {
+            *fanin = Signal(self.fanin_or_none(i));
+        }
+        fanins
     }
 
     /// Its function, with 0 past its bytes.

@@ -41,32 +41,13 @@ impl Job {
         file_len(&self.network)
     }
 
-    /// Reads a job file.
-    fn read_file(heap: Global, bytes: &[u8]) -> Result<Job, ReadError>
-        ensures { Reads bytes.now result }
-    {
-        let network = judge(bytes)?.load(heap)?;
-        Ok(Job { network })
-    }
-
     /// Reads a job file. What is read is written back as the same bytes.
     pub fn read(heap: Global, bytes: &[u8]) -> Result<Job, ReadError>
         ensures reads { Reads bytes.now result }
         ensures back { IfOk result (WritesBack bytes.now) }
     {
-        Job::read_file(heap, bytes)
-    }
-
-    /// Writes the job file into supplied bytes.
-    fn write_file(&self, out: &mut [u8]) -> Result<usize, Cause>
-        ensures { Writes (job_net self.now) out.old result out.new }
-    {
-        let len = self.file_len();
-        if out.len() < len {
-            return Err(Cause::OutputShort);
-        }
-        store(out, &self.network);
-        Ok(len)
+        let network = judge(bytes)?.load(heap)?;
+        Ok(Job { network })
     }
 
     /// Writes the job file into supplied bytes, and says how long it is. What is written reads as the same network.
@@ -74,7 +55,12 @@ impl Job {
         ensures writes { Writes (job_net self.now) out.old result out.new }
         ensures reopens { Reopens self.now }
     {
-        self.write_file(out)
+        let len = self.file_len();
+        if out.len() < len {
+            return Err(Cause::OutputShort);
+        }
+        store(out, &self.network);
+        Ok(len)
     }
 
     /// The job file in memory of its own.

@@ -1,5 +1,5 @@
 use Rattle.std.proofs.Common.{◌≡◌, ℕ, ◌+◌, ◌*◌, ◌<◌, ◌≤◌, List, ◌++◌, length, get_or, take, sym, ap, ◌∙◌, add-zero, arith}
-use Rattle.std.proofs.lemmas.List.{append_assoc, length-append, length-take-le, take_all, take_more}
+use Rattle.std.proofs.lemmas.List.{append_assoc, length-append, length-take-le, take_more}
 use Rattle.network.specs.Rows.{blank}
 use Rattle.network.specs.Parts.{net_of}
 use Rattle.network.specs.declared.row.Row.{Row}

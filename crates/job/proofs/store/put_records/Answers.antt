@@ -1,12 +1,11 @@
-use Rattle.std.proofs.Common.{◌≡◌, ℕ, ◌+◌, ◌<◌, ◌≤◌, List, length, get_or, take, sym, ap, ◌∙◌, subst, add-zero, arith}
+use Rattle.std.proofs.Common.{◌≡◌, ℕ, ◌+◌, ◌<◌, ◌≤◌, List, length, get_or, take, sym, ap, subst, add-zero, arith}
 use Rattle.std.specs.List.{flat_map}
-use Rattle.std.proofs.lemmas.List.{take_all, get_or-take, length-take-le}
-use Rattle.network.specs.Limits.{max_fanins}
+use Rattle.std.proofs.lemmas.List.{get_or-take, length-take-le}
 use Rattle.network.specs.Rows.{blank}
 use Rattle.network.specs.Nets.{Net, LegalNet}
 use Rattle.network.specs.Parts.{net_of}
 use Rattle.network.specs.declared.row.Row.{Row}
-use Rattle.job.specs.Bytes.{sizes, record_bytes, splice}
+use Rattle.job.specs.Bytes.{sizes, record_bytes}
 use Rattle.job.proofs.Sizes.{Sound, sizes-more, record-ends}
 use Rattle.job.proofs.Encoded.{sound-of, length-records}
 use Rattle.job.proofs.Splices.{splice-none, splice-more}

@@ -1,7 +1,7 @@
 use Rattle.std.proofs.Common.{◌≡◌, ◌+◌, ◌*◌, ◌<◌, length, take, sym, ap, ◌∙◌, arith}
-use Rattle.std.proofs.lemmas.List.{length-take-le, take_all}
+use Rattle.std.proofs.lemmas.List.{length-take-le}
 use Rattle.network.specs.Rows.{no_signal}
-use Rattle.job.specs.Bytes.{splice, le16, signal_bytes}
+use Rattle.job.specs.Bytes.{le16, signal_bytes}
 use Rattle.job.proofs.Sizes.{length-signals}
 use Rattle.job.proofs.Splices.{splice-none, splice-more}
 use Rattle.job.proofs.store.put_signals.Goals as goal

@@ -1,4 +1,4 @@
-use Rattle.std.proofs.Common.{◌≡◌, ◌≤◌, length, get_or, ap, sym, subst, arith}
+use Rattle.std.proofs.Common.{◌≤◌, length, get_or, ap, sym, subst, arith}
 use Rattle.network.specs.Limits.{max_fanins}
 use Rattle.network.specs.Rows.{blank}
 use Rattle.job.proofs.Sizes.{sizes-more, record-most}

@@ -1,5 +1,4 @@
 use Rattle.std.proofs.Common.{refl, sym, subst}
-use Rattle.job.specs.Loads.{RowLoaded}
 use Rattle.job.proofs.Loads.{row_loaded, row-there}
 use Rattle.job.proofs.Segments.{AreBytes}
 use Rattle.job.proofs.fields.Passed.load_row.Goals as goal

@@ -2,7 +2,7 @@ use Rattle.std.proofs.Common.{◌≡◌, ◌+◌, ◌<◌, subst, arith}
 use Rattle.network.specs.Nets.{nodes}
 use Rattle.network.specs.Rows.{Legal}
 use Rattle.network.specs.Parts.{net_of}
-use Rattle.job.specs.Checks.{inputs_of, nodes_of, offset_of, length_of, record_size, byte_at}
+use Rattle.job.specs.Checks.{inputs_of, nodes_of, offset_of, record_size, byte_at}
 use Rattle.job.proofs.Passed.{Fits, passed, record-passes}
 use Rattle.job.proofs.Loads.{rows_none, rows_more}
 use Rattle.job.proofs.fields.Passed.load_rows.Goals as goal

@@ -1,10 +1,17 @@
-use Rattle.std.proofs.Common.{◌+◌, ◌-◌, ◌*◌, drop, replicate, length, get_or, ap, ◌∙◌, arith}
-use Rattle.std.proofs.lemmas.List.{get_or_append_left, get_or-append_right, get_or-drop}
+use Rattle.std.proofs.Common.{◌≡◌, ℕ, ◌≤◌, inl, inr, ◌+◌, ◌-◌, ◌*◌, drop, replicate, length, get_or, ap, ◌∙◌, arith}
+use Rattle.std.proofs.lemmas.List.{get_or_append_left, get_or-append_right, get_or-drop, get_or-replicate, get_or_past, length-replicate}
+use Rattle.std.proofs.lemmas.Bool.{cases_lt}
 use Rattle.network.specs.Limits.{function_bytes}
 use Rattle.job.specs.Checks.{byte_at, width_of}
-use Rattle.job.proofs.Arrays.{all-default}
 use Rattle.job.proofs.Segments.{byte-seg}
 use Rattle.job.proofs.fields.Record.load_function.Goals as goal
+
+-- nothing but the default
+all-default : {X : Type 0} (n i : ℕ) (d : X) → get_or (replicate n d) i d ≡ d
+all-default n i d = elim (cases_lt i n) [
+  | inl l ↦ get_or-replicate n i d d l
+  | inr g ↦ get_or_past (replicate n d) i d (let z : length (replicate n d) ≤ i = omega (arith, length-replicate n d) in z)
+]
 
 pub returns-clause-bytes : goal.returns-clause-bytes
 returns-clause-bytes c k h =
