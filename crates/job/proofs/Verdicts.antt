@@ -1,5 +1,6 @@
 -- The first check that fails, part by part.
-use Rattle.std.proofs.Common.{◌≡◌, ℕ, zero, suc, ◌+◌, ◌*◌, ◌<◌, ◌≤◌, Bool, true, false, cond, List, [], ◌∷◌, ◌++◌, length, Some, None, Option, sym, refl, ap, ◌∙◌, subst, inl, inr, nat_lt, add-one, arith}
+use Rattle.std.proofs.Common.{◌≡◌, ℕ, zero, suc, ◌+◌, ◌*◌, ◌<◌, ◌≤◌, Bool, true, false, cond, List, [], ◌∷◌, ◌++◌, length, Some, None, Option, Ok, Err, Result, sym, refl, ap, ◌∙◌, subst, inl, inr, nat_lt, add-one, arith}
+use Rattle.std.specs.Result.{IsErrAnd, result_err}
 use Rattle.std.proofs.lemmas.Bool.{cases_lt}
 use Rattle.job.specs.declared.denial.Refusal.{Refusal}
 use Rattle.job.specs.declared.denial.Cause.TheVariants.{SignalRange}
@@ -103,6 +104,11 @@ at_records bs h o p e = at_rest bs h o p ∙ ap (λ x. or_else x (verdict (upto 
 
 pub same-record : (bs : List ℕ) (n i o s : ℕ) → i ≡ inputs_of bs → o ≡ offset_of bs n → s ≡ length_of bs n → verdict (record_checks bs (i + n) o s) ≡ verdict (node_checks bs n)
 same-record bs n i o s e p q = ap (λ x. verdict (record_checks bs (x + n) o s)) e ∙ ap (λ x. verdict (record_checks bs (inputs_of bs + n) x s)) p ∙ ap (λ x. verdict (record_checks bs (inputs_of bs + n) (offset_of bs n) x)) q
+
+-- the refusal that a `?` passes on
+pub passed-on : {T : Type 0} (r : Result T Refusal) {d : Refusal} {v : Option Refusal} → IsErrAnd r (λ e. e ≡ d) → v ≡ Some d → result_err r ≡ v
+passed-on (Ok x) h e = absurd h
+passed-on (Err y) h e = ap Some h ∙ sym e
 
 -- a head that passes, by other bytes that are the same
 pub head-passes : (bs xs : List ℕ) → xs ≡ bs → None ≡ verdict (head_checks bs) → verdict (head_checks xs) ≡ None

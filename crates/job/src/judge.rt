@@ -16,7 +16,7 @@ fn check_head(bytes: &[u8]) -> Result<Head<'_>, Refusal>
     let inputs = usize::from(bytes[0]);
     Refusal::unless(inputs <= MAX_INPUTS, Cause::CountRange, 0)?;
     let outputs = usize::from(bytes[1]);
-    Refusal::unless(outputs >= 1 && outputs <= MAX_OUTPUTS, Cause::CountRange, 1)?;
+    Refusal::unless((1..=MAX_OUTPUTS).contains(&outputs), Cause::CountRange, 1)?;
     let nodes = usize::from(word(bytes, 2));
     Refusal::unless(nodes <= MAX_NODES, Cause::CountRange, 2)?;
     let end = 4 + 4 * nodes + 2 * outputs;
@@ -50,6 +50,7 @@ impl Record<'_> {
     fn check_fanins(&self, signal: usize) -> Result<(), Refusal>
         ensures { result_err result ≡ verdict (upto (byte_at self.now.bytes.now self.now.at) (fanin_checks self.now.bytes.now signal self.now.at)) }
     {
+        // The number of a fanin gives its place in the file.
         for i in 0..usize::from(self.count()) {
             let fanin = usize::from(self.fanin(i));
             Refusal::unless(fanin < signal, Cause::SignalRange, self.fanin_place(i))?;
@@ -80,6 +81,7 @@ impl Head<'_> {
         ensures { result_err result ≡ verdict (upto (outputs_of self.now.bytes.now) (output_checks self.now.bytes.now)) }
     {
         let signals = self.inputs() + self.nodes();
+        // The number of an output gives its place in the file.
         for j in 0..self.outputs() {
             let output = usize::from(self.output(j));
             Refusal::unless(output < signals, Cause::SignalRange, self.output_place(j))?;
@@ -107,6 +109,7 @@ impl Head<'_> {
         ensures end { IfOk result (λ e. e ≡ due_of self.now.bytes.now (nodes_of self.now.bytes.now)) }
     {
         let mut due = self.end();
+        // The number of a pair gives its place in the file.
         for n in 0..self.nodes() {
             due = self.check_pair(n, due)?;
         }
@@ -129,6 +132,7 @@ impl Head<'_> {
         ensures { result_err result ≡ verdict (upto (nodes_of self.now.bytes.now) (node_checks self.now.bytes.now)) }
     {
         let inputs = self.inputs();
+        // The number of a record gives the place of its pair, and its signal.
         for n in 0..self.nodes() {
             check_record(self.bytes, inputs + n, self.offset(n), self.length(n))?;
         }

@@ -16,7 +16,7 @@ use std::alloc::{AllocError, Global};
 
 impl Record<'_> {
     /// Fanin i, and 0 past the last.
-    fn fanin_or_none(&self, i: usize) -> u16
+    fn fanin_or_zero(&self, i: usize) -> u16
         ensures { result ≡ cond (nat_lt i (byte_at self.now.bytes.now self.now.at)) (word_at self.now.bytes.now (self.now.at + 1 + 2 * i)) 0 }
     {
         if i < usize::from(self.count()) {
@@ -34,7 +34,7 @@ impl Record<'_> {
     {
         let mut fanins = [Signal(0); MAX_FANINS];
         for (i, fanin) in fanins.iter_mut().enumerate() {
-            *fanin = Signal(self.fanin_or_none(i));
+            *fanin = Signal(self.fanin_or_zero(i));
         }
         fanins
     }
@@ -83,6 +83,7 @@ impl<'a> Passed<'a> {
         requires { net_of network.old ≡ bare (inputs_of self.now.head.bytes.now) }
         ensures { OnOk result (RowsLoaded self.now.head.bytes.now (nodes_of self.now.head.bytes.now) (net_of network.new)) }
     {
+        // The number of a node gives the place of its pair in the file.
         for n in 0..self.head.nodes() {
             network.append_row(self.load_row(n))?;
         }
@@ -94,6 +95,7 @@ impl<'a> Passed<'a> {
         requires { RowsLoaded self.now.head.bytes.now (nodes_of self.now.head.bytes.now) (net_of network.old) }
         ensures { OnOk result (OutputsLoaded self.now.head.bytes.now (outputs_of self.now.head.bytes.now) (net_of network.new)) }
     {
+        // The number of an output gives its place in the file.
         for j in 0..self.head.outputs() {
             network.append_output(Signal(self.head.output(j)))?;
         }

@@ -1,14 +1,12 @@
 use Rattle.std.proofs.Common.{sym, ◌∙◌}
-use Rattle.std.proofs.lemmas.Result.{err_from_is_err_and}
-use Rattle.job.proofs.Verdicts.{same-fanins, same-stray, record-stop, record-end}
+use Rattle.job.proofs.Verdicts.{passed-on, same-fanins, same-stray, record-stop, record-end}
 use Rattle.job.proofs.judge.check_record.Goals as goal
 
 pub returns-in_err-check_fanins : goal.returns-in_err-check_fanins
 returns-in_err-check_fanins c =
-    let p = err_from_is_err_and c.from_residual-in_err-check_fanins.result c.from_residual-in_err-check_fanins.ensures.1 in
     let same = c.in_ok-shaped.ensures.same in
-    rw (p.1, p.2) (sym (record-stop c.args.bytes.now c.args.signal c.args.at c.args.size _ (sym c.in_ok-shaped.ensures.judged)
-    (sym (c.in_err-check_fanins.ensures ∙ same-fanins _ _ c.args.signal _ _ same.0 same.1))))
+    passed-on _ c.from_residual-in_err-check_fanins.ensures.1 (record-stop c.args.bytes.now c.args.signal c.args.at c.args.size _ (sym c.in_ok-shaped.ensures.judged)
+    (sym (c.in_err-check_fanins.ensures ∙ same-fanins _ _ c.args.signal _ _ same.0 same.1)))
 
 pub returns : goal.returns
 returns c =

@@ -1,13 +1,11 @@
 use Rattle.std.proofs.Common.{◌≡◌, None, sym, ◌∙◌, subst, arith, rules}
-use Rattle.std.proofs.lemmas.Result.{err_from_is_err_and}
 use Rattle.job.specs.Checks.{verdict, upto, pair_checks, nodes_of}
-use Rattle.job.proofs.Verdicts.{upto-more, upto-stop, due-more}
+use Rattle.job.proofs.Verdicts.{passed-on, upto-more, upto-stop, due-more}
 use Rattle.job.proofs.fields.Head.check_pairs.Goals as goal
 
 pub returns-in_err-due-clause-judged : goal.returns-in_err-due-clause-judged
 returns-in_err-due-clause-judged c =
-    let p = err_from_is_err_and c.from_residual.result c.from_residual.ensures.1 in
-    rw (p.1, p.2) (sym (upto-stop (pair_checks c.args.self.now.bytes.now) c.loop-n.n (nodes_of c.args.self.now.bytes.now) _ (search rules) c.loop-n.invariant.passed (sym c.in_err-due.ensures.judged)))
+    passed-on _ c.from_residual.ensures.1 (upto-stop (pair_checks c.args.self.now.bytes.now) c.loop-n.n (nodes_of c.args.self.now.bytes.now) _ (search rules) c.loop-n.invariant.passed (sym c.in_err-due.ensures.judged))
 
 pub loop-n-preserved : goal.loop-n-preserved
 loop-n-preserved c =
