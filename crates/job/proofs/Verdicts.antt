@@ -1,10 +1,9 @@
 -- The first check that fails, part by part.
-use Rattle.std.proofs.Common.{◌≡◌, ℕ, zero, suc, ◌+◌, ◌*◌, ◌<◌, ◌≤◌, Bool, true, false, cond, List, [], ◌∷◌, ◌++◌, length, Some, None, Option, Ok, Err, Result, sym, refl, ap, ◌∙◌, subst, inl, inr, nat_lt, add-one, arith}
+use Rattle.std.proofs.Common.{◌≡◌, ℕ, zero, suc, ◌+◌, ◌*◌, ◌<◌, ◌≤◌, Bool, true, false, cond, List, [], ◌∷◌, ◌++◌, length, Some, None, Option, Ok, Err, Result, sym, refl, ap, ◌∙◌, subst, inl, inr, add-one, arith}
 use Rattle.std.specs.Result.{IsErrAnd, result_err}
 use Rattle.std.proofs.lemmas.Bool.{cases_lt}
 use Rattle.job.specs.declared.denial.Refusal.{Refusal}
-use Rattle.job.specs.declared.denial.Cause.TheVariants.{SignalRange}
-use Rattle.job.specs.Checks.{Check, check, verdict, upto, due_of, offset_of, length_of, byte_at, shape_check, stray_check, fanin_checks, record_checks, node_checks, head_checks, output_checks, pair_checks, end_checks, inputs_of, outputs_of, nodes_of, checks}
+use Rattle.job.specs.Checks.{Check, verdict, upto, due_of, offset_of, length_of, byte_at, shape_check, stray_check, signal_checks, fanin_checks, record_checks, node_checks, head_checks, output_checks, pair_checks, end_checks, inputs_of, outputs_of, nodes_of, checks}
 use Rattle.std.proofs.lemmas.Bool.Decides.{nat_tests}
 
 -- the first of two answers
@@ -114,9 +113,9 @@ passed-on (Err y) h e = ap Some h ∙ sym e
 pub head-passes : (bs xs : List ℕ) → xs ≡ bs → None ≡ verdict (head_checks bs) → verdict (head_checks xs) ≡ None
 head-passes bs xs e h = ap (λ b. verdict (head_checks b)) e ∙ sym h
 
--- the check of the same signal
-pub same-signal : (x y s t p q : ℕ) → x ≡ y → s ≡ t → p ≡ q → verdict (check (nat_lt x s) SignalRange p ∷ []) ≡ verdict (check (nat_lt y t) SignalRange q ∷ [])
-same-signal x y s t p q ex es ep = ap (λ v. verdict (check (nat_lt v s) SignalRange p ∷ [])) ex ∙ ap (λ v. verdict (check (nat_lt y v) SignalRange p ∷ [])) es ∙ ap (λ v. verdict (check (nat_lt y t) SignalRange v ∷ [])) ep
+-- the checks of the same signals
+pub same-signals : (bs : List ℕ) (m n s t p q : ℕ) → m ≡ n → s ≡ t → p ≡ q → verdict (upto m (signal_checks bs s p)) ≡ verdict (upto n (signal_checks bs t q))
+same-signals bs m n s t p q em es ep = ap (λ v. verdict (upto v (signal_checks bs s p))) em ∙ ap (λ v. verdict (upto n (signal_checks bs v p))) es ∙ ap (λ v. verdict (upto n (signal_checks bs t v))) ep
 
 -- the checks of the same record
 pub same-fanins : (xs ys : List ℕ) (s a b : ℕ) → xs ≡ ys → a ≡ b → verdict (upto (byte_at xs a) (fanin_checks xs s a)) ≡ verdict (upto (byte_at ys b) (fanin_checks ys s b))

@@ -107,6 +107,10 @@ shape_check bs at size = check (nat_le (byte_at bs at) max_fanins && size == rec
 abbrev pub fanin_check : List ℕ → ℕ → ℕ → Check
 fanin_check bs s p = check (nat_lt (word_at bs p) s) SignalRange p
 
+-- words from a place on are signals lower than s
+abbrev pub signal_checks : List ℕ → ℕ → ℕ → ℕ → List Check
+signal_checks bs s p i = fanin_check bs s (p + 2 * i) ∷ []
+
 abbrev pub fanin_checks : List ℕ → ℕ → ℕ → ℕ → List Check
 fanin_checks bs s at i = fanin_check bs s (at + 1 + 2 * i) ∷ []
 

@@ -78,7 +78,7 @@ impl<'a> Head<'a> {
     pub(crate) fn end(&self) -> usize
         ensures { result ≡ head_end self.now.bytes.now }
     {
-        4 + 4 * self.nodes() + 2 * self.outputs()
+        self.output_place(self.outputs())
     }
 
     /// Where record n starts, by its pair.
@@ -99,9 +99,9 @@ impl<'a> Head<'a> {
         usize::from(word(self.bytes, 6 + 4 * n))
     }
 
-    /// The place of output j.
+    /// The place of output j, or of the first record behind the last.
     pub(crate) fn output_place(&self, j: usize) -> usize
-        requires { j < outputs_of self.now.bytes.now }
+        requires { j ≤ outputs_of self.now.bytes.now }
         ensures { result ≡ output_place self.now.bytes.now j }
     {
         4 + 4 * self.nodes() + 2 * j

@@ -1,7 +1,7 @@
 //! The checks of a job file.
 ghost use Rattle.std.specs.Prelude.{◌≡◌, ℕ, ◌+◌, ◌*◌, ◌^◌, ◌<◌, ◌≤◌, min, [], ◌∷◌, length, IfOk, None, nat_lt};
 ghost use Rattle.std.specs.Result.{result_err};
-ghost use Rattle.job.specs.Checks.{verdict, upto, byte_at, outputs_of, nodes_of, fanin_checks, node_checks, due_of, offset_of, length_of, head_checks, output_checks, pair_checks, end_checks, shape_check, stray_check, record_checks, checks};
+ghost use Rattle.job.specs.Checks.{verdict, upto, byte_at, outputs_of, nodes_of, fanin_checks, node_checks, due_of, offset_of, length_of, head_checks, output_checks, signal_checks, pair_checks, end_checks, shape_check, stray_check, record_checks, checks};
 
 use crate::denial::{Cause, Refusal};
 use crate::fields::{Head, Passed, Record, record_len, word};
@@ -34,6 +34,20 @@ fn check_shape(bytes: &[u8], at: usize, size: usize) -> Result<Record<'_>, Refus
     Ok(Record { bytes, at })
 }
 
+/// Whether each of some signals, whose words start at a place, is lower than a bound.
+fn check_signals(bytes: &[u8], first: usize, count: usize, bound: usize) -> Result<(), Refusal>
+    requires { first + 2 * count ≤ length bytes.now }
+    ensures { result_err result ≡ verdict (upto count (signal_checks bytes.now bound first)) }
+{
+    // The number of a signal gives its place in the file.
+    for i in 0..count {
+        let place = first + 2 * i;
+        let signal = usize::from(word(bytes, place));
+        Refusal::unless(signal < bound, Cause::SignalRange, place)?;
+    }
+    Ok(())
+}
+
 /// Whether a function's first byte has no bit at or above 2^f.
 fn is_clean_byte(f: u8, byte: u8) -> bool
     ensures { result ≡ nat_lt byte (2 ^ (2 ^ min f 3)) }
@@ -50,12 +64,8 @@ impl Record<'_> {
     fn check_fanins(&self, signal: usize) -> Result<(), Refusal>
         ensures { result_err result ≡ verdict (upto (byte_at self.now.bytes.now self.now.at) (fanin_checks self.now.bytes.now signal self.now.at)) }
     {
-        // The number of a fanin gives its place in the file.
-        for i in 0..usize::from(self.count()) {
-            let fanin = usize::from(self.fanin(i));
-            Refusal::unless(fanin < signal, Cause::SignalRange, self.fanin_place(i))?;
-        }
-        Ok(())
+        let count = usize::from(self.count());
+        check_signals(self.bytes, self.fanin_place(0), count, signal)
     }
 
     fn check_stray(&self) -> Result<(), Refusal>
@@ -81,12 +91,7 @@ impl Head<'_> {
         ensures { result_err result ≡ verdict (upto (outputs_of self.now.bytes.now) (output_checks self.now.bytes.now)) }
     {
         let signals = self.inputs() + self.nodes();
-        // The number of an output gives its place in the file.
-        for j in 0..self.outputs() {
-            let output = usize::from(self.output(j));
-            Refusal::unless(output < signals, Cause::SignalRange, self.output_place(j))?;
-        }
-        Ok(())
+        check_signals(self.bytes, self.output_place(0), self.outputs(), signals)
     }
 
     /// Where the record of pair n ends; it is due to start at `due`.
