@@ -89,8 +89,8 @@ impl Refusal {
 impl From<Refusal> for ReadError {
     ghost from_gives = { λ r e. e ≡ Refused r };
 
-    fn from(refusal: Refusal) -> ReadError {
-        ReadError::Refused(refusal)
+    fn from(reason: Refusal) -> ReadError {
+        ReadError::Refused(reason)
     }
 }
 

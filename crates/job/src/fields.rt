@@ -81,6 +81,7 @@ impl<'a> Head<'a> {
         self.output_place(self.outputs())
     }
 
+    // What is asked of n is that there is such a record, as an index into a slice asks it.
     /// Where record n starts, by its pair.
     pub(crate) fn offset(&self, n: usize) -> usize
         requires { n < nodes_of self.now.bytes.now }

@@ -1,5 +1,5 @@
 //! The checks of a job file.
-ghost use Rattle.std.specs.Prelude.{◌≡◌, ℕ, ◌+◌, ◌*◌, ◌^◌, ◌<◌, ◌≤◌, min, [], ◌∷◌, length, IfOk, None, nat_lt};
+ghost use Rattle.std.specs.Prelude.{◌≡◌, ◌+◌, ◌*◌, ◌^◌, ◌<◌, ◌≤◌, min, [], ◌∷◌, length, IfOk, None, nat_lt};
 ghost use Rattle.std.specs.Result.{result_err};
 ghost use Rattle.job.specs.Checks.{verdict, upto, byte_at, outputs_of, nodes_of, fanin_checks, node_checks, due_of, offset_of, length_of, head_checks, output_checks, signal_checks, pair_checks, end_checks, shape_check, stray_check, record_checks, checks};
 

@@ -4,7 +4,7 @@ ghost use Rattle.network.specs.Limits.{max_fanins, function_bytes};
 ghost use Rattle.network.specs.Nets.{bare};
 ghost use Rattle.network.specs.Parts.{net_of};
 ghost use Rattle.network.specs.Rows.{no_signal};
-ghost use Rattle.job.specs.Checks.{byte_at, word_at, inputs_of, nodes_of, outputs_of, width_of, offset_of, output_place};
+ghost use Rattle.job.specs.Checks.{byte_at, word_at, inputs_of, nodes_of, outputs_of, width_of, offset_of};
 ghost use Rattle.job.specs.Bytes.{encode};
 ghost use Rattle.job.specs.Loads.{RowLoaded, RowsLoaded, OutputsLoaded};
 

@@ -1,5 +1,5 @@
 //! Writing a job.
-ghost use Rattle.std.specs.Prelude.{◌≡◌, ℕ, ◌+◌, ◌-◌, ◌*◌, ◌<◌, ◌≤◌, ◌∷◌, length};
+ghost use Rattle.std.specs.Prelude.{◌≡◌, ◌+◌, ◌-◌, ◌*◌, ◌<◌, ◌≤◌, ◌∷◌, length};
 ghost use Rattle.std.specs.List.{flat_map};
 ghost use Rattle.network.specs.Limits.{max_fanins};
 ghost use Rattle.network.specs.Parts.{net_of};
@@ -10,6 +10,7 @@ use crate::fields::{record_len, width};
 use network::network::Network;
 use network::row::{Row, Signal};
 
+// The place goes along: a writer that held it would have to say of each step how far it moved.
 fn put_word(out: &mut [u8], at: usize, x: u16)
     requires { at + 2 ≤ length out.old }
     ensures { out.new ≡ splice out.old at (le16 x) }
@@ -48,7 +49,7 @@ fn put_record(out: &mut [u8], at: usize, row: &Row)
 }
 
 /// How many bytes the records have.
-fn records_len(network: &Network) -> usize
+pub(crate) fn records_len(network: &Network) -> usize
     ensures value { result ≡ sizes (net_of network.now).rows }
     ensures most { result ≤ 49 * length (net_of network.now).rows }
 {
@@ -96,17 +97,8 @@ fn put_counts(out: &mut [u8], inputs: u8, outputs: u8, nodes: u16)
     put_word(out, 2, nodes);
 }
 
-/// The length of a network's job file.
-pub fn file_len(network: &Network) -> usize
-    requires { length (net_of network.now).outputs ≤ max_outputs }
-    ensures value { result ≡ length (encode (net_of network.now)) }
-    ensures most { result ≤ max_file_length }
-{
-    4 + 4 * network.rows().len() + 2 * network.outputs().len() + records_len(network)
-}
-
 /// Writes the job file of a network from the first byte on.
-pub fn store(out: &mut [u8], network: &Network)
+pub(crate) fn store(out: &mut [u8], network: &Network)
     requires few { length (net_of network.now).outputs ≤ max_outputs }
     requires fits { length (encode (net_of network.now)) ≤ max_file_length }
     requires within { length (encode (net_of network.now)) ≤ length out.old }

@@ -1,5 +1,5 @@
 //! What can be done with a job.
-ghost use Rattle.std.specs.Prelude.{◌≡◌, ℕ, ◌<◌, ◌≤◌, length, IfOk, MatchOption};
+ghost use Rattle.std.specs.Prelude.{◌≡◌, ◌<◌, ◌≤◌, length, IfOk, MatchOption};
 ghost use Rattle.network.specs.Rows.{Clean};
 ghost use Rattle.network.specs.Nets.{nodes, row_at, replaced};
 ghost use Rattle.network.specs.Parts.{net_of};
@@ -10,7 +10,7 @@ ghost use Rattle.job.specs.Jobs.{job_net, Reads, Writes, Reopens, WritesBack};
 use super::{Job, MAX_OUTPUTS};
 use crate::denial::{Cause, ReadError};
 use crate::judge::judge;
-use crate::store::{file_len, store};
+use crate::store::{records_len, store};
 use network::network::Network;
 use network::row::Function;
 use std::alloc::{AllocError, Global};
@@ -38,7 +38,9 @@ impl Job {
         ensures value { result ≡ length (encode (job_net self.now)) }
         ensures most { result ≤ max_file_length }
     {
-        file_len(&self.network)
+        let rows = self.network.rows().len();
+        let outputs = self.network.outputs().len();
+        4 + 4 * rows + 2 * outputs + records_len(&self.network)
     }
 
     /// Reads a job file. What is read is written back as the same bytes.
