@@ -1,112 +1,64 @@
 //! The boards of a session, by name, and what each call answers.
+use crate::answer::{Answer, Denied};
 use crate::script::Call;
-use crate::text::hex;
-use crate::view::show_context;
-use job::denial::ReadError;
 use job::job::Job;
 use logic::evaluate::outputs;
 use network::network::Network;
-use network::row::{Assignment, Signal};
+use network::row::Signal;
 use std::alloc::{AllocError, Global};
 use std::collections::BTreeMap;
 use window::extracted::Context;
-use window::scope::Scope;
 
 #[derive(Drop)]
 pub(crate) struct Boards {
     heap: Global,
     jobs: BTreeMap<String, Job>,
+    /// The job of each board that was never opened.
+    unopened: Job,
 }
 
 /// The job of a board that was never opened: one input, which is the one output.
 fn never_opened(heap: Global) -> Result<Job, AllocError> {
-    let Some(mut network) = Network::new(heap, 1) else {
-        return Err(AllocError);
-    };
-    if network.push_output(Signal(0)).is_err() {
-        return Err(AllocError);
-    }
-    match Job::from_network(network) {
-        Some(job) => Ok(job),
-        None => Err(AllocError),
-    }
+    let mut network = Network::new(heap, 1).unwrap();
+    network.append_output(Signal(0))?;
+    Ok(Job::from_network(network).unwrap())
 }
 
 impl Boards {
-    pub(crate) fn new(heap: Global) -> Boards {
-        Boards {
+    pub(crate) fn new(heap: Global) -> Result<Boards, AllocError> {
+        Ok(Boards {
             heap,
             jobs: BTreeMap::new(heap),
-        }
+            unopened: never_opened(heap)?,
+        })
     }
 
-    fn put(&mut self, board: &str, job: Job) -> Result<(), AllocError> {
-        let key = String::from_str(self.heap, board)?;
-        match self.jobs.insert(key, job) {
-            Ok(_) => Ok(()),
-            Err(_) => Err(AllocError),
-        }
+    fn job(&self, board: &str) -> &Job {
+        self.jobs.get(board).unwrap_or(&self.unopened)
     }
 
-    fn open(&mut self, board: &str, bytes: &[u8]) -> Result<String, AllocError> {
-        match Job::read(self.heap, bytes) {
-            Ok(job) => {
-                self.put(board, job)?;
-                String::from_str(self.heap, "ok 0")
-            }
-            Err(ReadError::NoMemory) => Err(AllocError),
-            Err(ReadError::Refused(refusal)) => {
-                let number = refusal.cause.number();
-                let place = refusal.place;
-                format!(in self.heap; "no {number} {place}")
-            }
-        }
+    fn open(&mut self, board: &str, bytes: &[u8]) -> Result<Answer, Denied> {
+        let job = Job::read(self.heap, bytes)?;
+        let board = String::from_str(self.heap, board)?;
+        self.jobs.insert(board, job).map_err(AllocError::from)?;
+        Ok(Answer::Opened)
     }
 
-    fn context(&self, job: &Job, node: usize, scope: Scope) -> Result<String, AllocError> {
-        match Context::build(self.heap, job.network(), node, scope) {
-            Ok(context) => show_context(self.heap, &context),
-            Err(refusal) => match refusal.number() {
-                Some(number) => format!(in self.heap; "no {number}"),
-                None => Err(AllocError),
-            },
-        }
+    fn write(&self, board: &str, length: usize) -> Result<Answer, Denied> {
+        let mut buffer = vec![in self.heap; 0xEEu8; length]?;
+        let length = self.job(board).write(&mut buffer)?;
+        Ok(Answer::Written(length, buffer))
     }
 
-    fn run(&self, job: &Job, x: Assignment) -> Result<String, AllocError> {
-        let bits = outputs(job.network(), x);
-        format!(in self.heap; "ok {bits}")
-    }
-
-    fn write(&self, job: &Job, length: usize) -> Result<String, AllocError> {
-        let mut out = vec![in self.heap; 0xEEu8; length]?;
-        match job.write(&mut out) {
-            Ok(len) => {
-                let text = hex(self.heap, out.as_slice())?;
-                format!(in self.heap; "ok {len} {text}")
-            }
-            Err(cause) => {
-                let number = cause.number();
-                format!(in self.heap; "no {number}")
-            }
-        }
-    }
-
-    pub(crate) fn answer(&mut self, call: Call) -> Result<String, AllocError> {
+    pub(crate) fn answer(&mut self, call: Call) -> Result<Answer, Denied> {
         match call {
             Call::Open(board, bytes) => self.open(board, bytes.as_slice()),
-            Call::Context(board, node, scope) => match self.jobs.get(board) {
-                Some(job) => self.context(job, node, scope),
-                None => self.context(&never_opened(self.heap)?, node, scope),
-            },
-            Call::Run(board, x) => match self.jobs.get(board) {
-                Some(job) => self.run(job, Assignment(x)),
-                None => self.run(&never_opened(self.heap)?, Assignment(x)),
-            },
-            Call::Write(board, length) => match self.jobs.get(board) {
-                Some(job) => self.write(job, length),
-                None => self.write(&never_opened(self.heap)?, length),
-            },
+            Call::Context(board, node, scope) => {
+                let network = self.job(board).network();
+                Ok(Answer::Context(Context::build(self.heap, network, node, scope)?))
+            }
+            Call::Run(board, x) => Ok(Answer::Outputs(outputs(self.job(board).network(), x))),
+            Call::Write(board, length) => self.write(board, length),
         }
     }
 }

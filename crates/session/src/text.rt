@@ -1,66 +1,27 @@
 //! Numbers and bytes as text.
-use std::alloc::{AllocError, Global};
+use std::fmt;
 
 /// A number in decimal digits, or None; one that is too large is the largest there is.
 pub(crate) fn number(word: &str) -> Option<u64> {
-    if word.is_empty() {
+    // `parse` also takes a sign, so the digits are looked at first; then it fails only for size.
+    if word.is_empty() || !word.bytes().all(|b| b.is_ascii_digit()) {
         return None;
     }
-    let mut value = 0u64;
-    for b in word.bytes() {
-        match b {
-            b'0'..=b'9' => value = value.saturating_mul(10).saturating_add(u64::from(b - b'0')),
-            _ => return None,
+    Some(word.parse().unwrap_or(u64::MAX))
+}
+
+/// Bytes in pairs of hexadecimal digits, `-` for none.
+#[derive(Clone, Copy)]
+pub(crate) struct Hex<'a>(pub(crate) &'a [u8]);
+
+impl fmt::Display for Hex<'_> {
+    fn fmt<W: fmt::Write>(&self, f: &mut fmt::Formatter<W>) -> fmt::Result {
+        if self.0.is_empty() {
+            return f.write_str("-");
         }
-    }
-    Some(value)
-}
-
-fn hex_digit(b: u8) -> Option<u8> {
-    match b {
-        b'0'..=b'9' => Some(b - b'0'),
-        b'a'..=b'f' => Some(b - b'a' + 10),
-        b'A'..=b'F' => Some(b - b'A' + 10),
-        _ => None,
-    }
-}
-
-/// Bytes in pairs of hexadecimal digits, `-` for none; None where the word is nothing of the kind.
-pub(crate) fn bytes(heap: Global, word: &str) -> Result<Option<Vec<u8>>, AllocError> {
-    let mut all = Vec::new(heap);
-    if word == "-" {
-        return Ok(Some(all));
-    }
-    let digits = word.as_bytes();
-    if digits.is_empty() || digits.len() % 2 == 1 {
-        return Ok(None);
-    }
-    for i in 0..digits.len() / 2 {
-        match (hex_digit(digits[2 * i]), hex_digit(digits[2 * i + 1])) {
-            (Some(high), Some(low)) => all.push((high & 15) << 4 | low & 15)?,
-            _ => return Ok(None),
+        for b in self.0 {
+            write!(f, "{b:02X}")?;
         }
+        Ok(())
     }
-    Ok(Some(all))
-}
-
-fn hex_char(digit: u8) -> char {
-    match digit {
-        0..=9 => char::from(b'0' + digit),
-        10..=15 => char::from(b'A' + (digit - 10)),
-        _ => '?',
-    }
-}
-
-/// Bytes as `bytes` reads them.
-pub(crate) fn hex(heap: Global, bytes: &[u8]) -> Result<String, AllocError> {
-    let mut text = String::new(heap);
-    if bytes.is_empty() {
-        text.push('-')?;
-    }
-    for b in bytes {
-        text.push(hex_char(*b >> 4))?;
-        text.push(hex_char(*b & 15))?;
-    }
-    Ok(text)
 }
