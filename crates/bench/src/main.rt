@@ -2,89 +2,107 @@
 //! are `words` or `ternary` and the number of walks; the job comes on standard input.
 #![tactic(auto)]
 
-use anyhow::anyhow;
-use job::job::{Job, MAX_OUTPUTS};
-use logic::evaluate::output_words;
-use logic::limits::MAX_SIGNALS;
+ghost use Rattle.std.specs.Prelude.{◌*◌, ◌^◌, ◌<◌};
+ghost use Rattle.std.specs.Mem.{type_size};
+
+use anyhow::bail;
+use job::job::Job;
+use logic::logic::Logic;
 use logic::ternary::Ternary;
 use logic::trit::Trit;
 use logic::walk::walk;
-use network::limits::{MAX_INPUTS, MINTERMS};
+use logic::words::Words;
+use network::limits::{MAX_SIGNALS, MINTERMS};
 use network::network::Network;
 use std::env;
 use std::io::Read;
 
-/// The next number of a generator.
-fn next(z: u64) -> u64 {
-    let z = z ^ (z << 13);
-    let z = z ^ (z >> 7);
-    z ^ (z << 17)
+/// A logic whose values can be drawn for the inputs, and counted at the outputs.
+trait Measured: Logic {
+    /// The value that a number of the generator stands for.
+    fn draw(number: u64) -> Self::Value;
+
+    /// What a value counts in the checksum.
+    fn count(value: Self::Value) -> u64;
 }
 
-/// One walk at words, from the generator's state and the sum so far.
-fn walk_words(network: &Network, z: u64, sum: u64) -> (u64, u64) {
-    let mut z = z;
-    let mut sum = sum;
-    let mut leaves = [0u64; MAX_INPUTS];
-    let mut words = [0u64; MAX_OUTPUTS];
-    for leaf in leaves.iter_mut().take(network.inputs()) {
-        z = next(z);
-        *leaf = z;
+impl Measured for Words {
+    fn draw(number: u64) -> u64 {
+        number
     }
-    output_words(network, &leaves, &mut words);
-    for word in words.iter().take(network.outputs().len()) {
-        sum = sum.wrapping_mul(3).wrapping_add(*word);
-    }
-    (z, sum)
-}
 
-/// 1, 2 or 3: may be 0, may be 1, or both.
-fn flags(v: Trit) -> u64 {
-    match v.bit() {
-        Some(false) => 1,
-        Some(true) => 2,
-        None => 3,
+    fn count(value: u64) -> u64 {
+        value
     }
 }
 
-fn trit(flags: u64) -> Trit {
-    match flags {
-        1 => Trit::known(false),
-        2 => Trit::known(true),
-        _ => Trit::unknown(),
-    }
-}
-
-/// One walk at three-valued bits, from the generator's state and the sum so far.
-fn walk_trits(network: &Network, z: u64, sum: u64) -> (u64, u64) {
-    let mut z = z;
-    let mut sum = sum;
-    let mut values = [Trit::unknown(); MAX_SIGNALS];
-    let mut fold = [Trit::unknown(); MINTERMS];
-    for leaf in values.iter_mut().take(network.inputs()) {
-        z = next(z);
-        *leaf = trit(1 + z % 3);
-    }
-    walk::<Ternary>(network, None, &mut values, &mut fold);
-    for output in network.outputs() {
-        if let Some(v) = values.get(output.0 as usize) {
-            sum = sum.wrapping_mul(3).wrapping_add(flags(*v));
+impl Measured for Ternary {
+    fn draw(number: u64) -> Trit {
+        match number % 3 {
+            0 => Trit::known(false),
+            1 => Trit::known(true),
+            _ => Trit::unknown(),
         }
     }
-    (z, sum)
+
+    /// 1 if it may be 0, and 2 more if it may be 1.
+    fn count(value: Trit) -> u64 {
+        match value.bit() {
+            Some(false) => 1,
+            Some(true) => 2,
+            None => 3,
+        }
+    }
 }
 
-fn walks(network: &Network, words: bool, count: u64) -> u64 {
-    let mut z = 1;
-    let mut sum = 0;
-    for _ in 0..count {
-        (z, sum) = if words {
-            walk_words(network, z, sum)
-        } else {
-            walk_trits(network, z, sum)
-        };
+/// The generator's state, and the checksum so far.
+#[derive(Drop)]
+struct Measurement {
+    state: u64,
+    sum: u64,
+}
+
+impl Measurement {
+    /// The next number of the generator.
+    fn next(&mut self) -> u64 {
+        self.state ^= self.state << 13;
+        self.state ^= self.state >> 7;
+        self.state ^= self.state << 17;
+        self.state
     }
-    sum
+
+    /// Counts an output in the checksum.
+    fn add(&mut self, count: u64) {
+        self.sum = self.sum.wrapping_mul(3).wrapping_add(count);
+    }
+
+    /// One walk, with a value drawn for each input and each output's value counted.
+    fn walk<L: Measured>(&mut self, network: &Network)
+        requires { MAX_SIGNALS * type_size L.Value.row < 2 ^ 63 }
+    {
+        let mut values = [L::constant(false); MAX_SIGNALS];
+        let mut fold = [L::constant(false); MINTERMS];
+        for leaf in values.iter_mut().take(network.inputs()) {
+            *leaf = L::draw(self.next());
+        }
+        walk::<L>(network, None, &mut values, &mut fold);
+        for output in network.outputs() {
+            if let Some(value) = values.get(output.0 as usize) {
+                self.add(L::count(*value));
+            }
+        }
+    }
+}
+
+/// The checksum of some walks.
+fn checksum<L: Measured>(network: &Network, walks: u64) -> u64
+    requires { MAX_SIGNALS * type_size L.Value.row < 2 ^ 63 }
+{
+    let mut measurement = Measurement { state: 1, sum: 0 };
+    for _ in 0..walks {
+        measurement.walk::<L>(network);
+    }
+    measurement.sum
 }
 
 fn run(rt: &HostRuntime) -> anyhow::Result<()> {
@@ -93,13 +111,16 @@ fn run(rt: &HostRuntime) -> anyhow::Result<()> {
     let mut bytes = Vec::new(heap);
     rt.stdin().read_to_end(&mut bytes)?;
     let Ok(job) = Job::read(heap, bytes.as_slice()) else {
-        return Err(anyhow!("standard input has no job"));
+        bail!("standard input has no job");
     };
-    if words.len() != 3 {
-        return Err(anyhow!("usage: bench words|ternary COUNT < JOB"));
-    }
-    let count = words[2].as_str().parse::<u64>()?;
-    let sum = walks(job.network(), words[1].as_str() == "words", count);
+    let [_, logic, walks] = words.as_slice() else {
+        bail!("usage: bench words|ternary COUNT < JOB");
+    };
+    let walks = walks.as_str().parse::<u64>()?;
+    let sum = match logic.as_str() {
+        "words" => checksum::<Words>(job.network(), walks),
+        _ => checksum::<Ternary>(job.network(), walks),
+    };
     println!(rt; "{sum}")?;
     Ok(())
 }
