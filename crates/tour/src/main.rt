@@ -1,68 +1,62 @@
 //! Does one job from start to end, and prints each thing that it did.
 #![tactic(auto)]
 
-use anyhow::anyhow;
-use job::denial::ReadError;
+use anyhow::bail;
+use job::denial::{ReadError, Refusal};
 use job::job::Job;
 use logic::evaluate::outputs;
 use network::network::Network;
 use network::row::{Assignment, Minterm, Row, Signal};
-use std::alloc::Global;
+use std::alloc::{AllocError, Global};
+use std::fmt;
 use std::io::Read;
 use window::extracted::Context;
 use window::scope::Scope;
 
 /// The function's bits, the one at the highest minterm first.
-fn function_bits(heap: Global, row: &Row) -> anyhow::Result<String> {
-    let mut text = String::new(heap);
-    let count = row.count.min(8);
-    for y in (0..1u16 << count).rev() {
-        text.push(if row.function.bit(Minterm(y)) {
-            '1'
-        } else {
-            '0'
-        })?;
+#[derive(Clone, Copy)]
+struct FunctionBits<'a>(&'a Row);
+
+impl fmt::Display for FunctionBits<'_> {
+    fn fmt<W: fmt::Write>(&self, f: &mut fmt::Formatter<W>) -> fmt::Result {
+        for y in (0..1u16 << self.0.count.min(8)).rev() {
+            write!(f, "{}", u8::from(self.0.function.bit(Minterm(y))))?;
+        }
+        Ok(())
     }
-    Ok(text)
 }
 
 /// Signals, with a blank before each.
-fn signals(heap: Global, all: &[Signal]) -> anyhow::Result<String> {
-    let mut text = String::new(heap);
-    for signal in all {
-        let number = signal.0;
-        text.push_str(format!(in heap; " {number}")?.as_str())?;
-    }
-    Ok(text)
-}
+#[derive(Clone, Copy)]
+struct Signals<'a>(&'a [Signal]);
 
-fn fanins(heap: Global, row: &Row) -> anyhow::Result<String> {
-    let count = (row.count as usize).min(row.fanins.len());
-    signals(heap, &row.fanins[0..count])
+impl fmt::Display for Signals<'_> {
+    fn fmt<W: fmt::Write>(&self, f: &mut fmt::Formatter<W>) -> fmt::Result {
+        for signal in self.0 {
+            write!(f, " {}", signal.0)?;
+        }
+        Ok(())
+    }
 }
 
 fn show_network(rt: &HostRuntime, network: &Network) -> anyhow::Result<()> {
-    let heap = rt.alloc();
     let inputs = network.inputs();
     for (n, row) in network.rows().iter().enumerate() {
         let signal = inputs.saturating_add(n);
-        let fanins = fanins(heap, row)?;
-        let bits = function_bits(heap, row)?;
+        let fanins = Signals(row.used());
+        let bits = FunctionBits(row);
         println!(rt; "  node {n}, signal {signal}: fanins{fanins}, function {bits}")?;
     }
     for (j, output) in network.outputs().iter().enumerate() {
-        let signal = output.0;
-        println!(rt; "  output {j}: signal {signal}")?;
+        println!(rt; "  output {j}: signal {}", output.0)?;
     }
     Ok(())
 }
 
 /// The outputs under the first assignments.
 fn show_outputs(rt: &HostRuntime, network: &Network) -> anyhow::Result<()> {
-    let inputs = network.inputs();
-    let last = if inputs < 3 { 1u64 << inputs } else { 8 };
     println!(rt; "values:")?;
-    for x in 0..last {
+    for x in 0..1u64 << network.inputs().min(3) {
         let bits = outputs(network, Assignment(x));
         println!(rt; "  assignment {x}: outputs {bits}")?;
     }
@@ -73,7 +67,7 @@ fn show_outputs(rt: &HostRuntime, network: &Network) -> anyhow::Result<()> {
 fn show_context(rt: &HostRuntime, network: &Network, n: usize, scope: Scope) -> anyhow::Result<()> {
     match Context::build(rt.alloc(), network, n, scope) {
         Ok(context) => {
-            let leaves = signals(rt.alloc(), context.leaves())?;
+            let leaves = Signals(context.leaves());
             let target = context.target();
             let inputs = context.network().inputs();
             println!(rt;
@@ -103,77 +97,76 @@ fn show_contexts(rt: &HostRuntime, network: &Network) -> anyhow::Result<()> {
     Ok(())
 }
 
-/// Reads some bytes that are no job, and prints why they are none.
-fn show_refusal(rt: &HostRuntime, name: &str, bytes: &[u8]) -> anyhow::Result<()> {
-    match Job::read(rt.alloc(), bytes) {
-        Ok(_) => println!(rt; "  {name}: accepted")?,
-        Err(ReadError::NoMemory) => println!(rt; "  {name}: no memory")?,
-        Err(ReadError::Refused(refusal)) => {
-            let number = refusal.cause.number();
-            let place = refusal.place;
-            let words = refusal.cause.words();
-            println!(rt; "  {name}: refused with {number} at {place}, {words}")?
-        }
-    }
+/// Prints why some bytes are no job.
+fn show_refusal(rt: &HostRuntime, name: &str, refusal: Refusal) -> anyhow::Result<()> {
+    let Refusal { cause, place } = refusal;
+    let number = cause.number();
+    let words = cause.words();
+    println!(rt; "  {name}: refused with {number} at {place}, {words}")?;
     Ok(())
 }
 
-/// The job with one byte replaced.
-fn show_damage(
-    rt: &HostRuntime,
-    name: &str,
-    bytes: &[u8],
-    place: usize,
-    byte: u8,
-) -> anyhow::Result<()> {
-    let mut damaged = bytes.to_vec(rt.alloc())?;
-    if let Some(there) = damaged.get_mut(place) {
-        *there = byte;
-    }
-    show_refusal(rt, name, damaged.as_slice())
+/// What is done to the bytes of a job.
+#[derive(Clone, Copy)]
+enum Damage {
+    /// Only so many of the first are left.
+    CutTo(usize),
+    /// The one at a place is replaced.
+    Replaced(usize, u8),
 }
 
-fn show_damages(rt: &HostRuntime, job: &Job, bytes: &[u8]) -> anyhow::Result<()> {
-    let pairs = job
-        .network()
-        .rows()
-        .len()
-        .saturating_mul(4)
-        .saturating_add(4);
-    let head = job
-        .network()
+impl Damage {
+    /// The bytes with the damage done to them.
+    fn apply(self, heap: Global, bytes: &[u8]) -> Result<Vec<u8>, AllocError> {
+        let mut damaged = bytes.to_vec(heap)?;
+        match self {
+            Damage::CutTo(length) => damaged.truncate(length),
+            Damage::Replaced(place, byte) => {
+                if let Some(there) = damaged.get_mut(place) {
+                    *there = byte;
+                }
+            }
+        }
+        Ok(damaged)
+    }
+}
+
+/// Damages a job in each way, and prints what is read.
+fn show_damages(rt: &HostRuntime, network: &Network, bytes: &[u8]) -> anyhow::Result<()> {
+    let pairs = network.rows().len().saturating_mul(4).saturating_add(4);
+    let head = network
         .outputs()
         .len()
         .saturating_mul(2)
         .saturating_add(pairs);
-    let length = bytes.len();
+    let last = bytes.len().saturating_sub(1);
     println!(rt; "damaged:")?;
-    show_refusal(rt, "the empty file", &bytes[0..0])?;
-    show_damage(rt, "49 inputs", bytes, 0, 49)?;
-    show_damage(rt, "no outputs", bytes, 1, 0)?;
-    show_refusal(rt, "cut off in its head", &bytes[0..length.min(5)])?;
-    show_damage(rt, "an output that is no signal", bytes, pairs, 255)?;
-    show_damage(rt, "a record that is not where it is due", bytes, 4, 255)?;
-    show_refusal(
-        rt,
-        "the last byte cut off",
-        &bytes[0..length.saturating_sub(1)],
-    )?;
-    show_damage(rt, "nine fanins", bytes, head, 9)?;
-    show_damage(
-        rt,
-        "a fanin that is not lower",
-        bytes,
-        head.saturating_add(2),
-        1,
-    )?;
-    show_damage(
-        rt,
-        "a function bit too many",
-        bytes,
-        length.saturating_sub(1),
-        22,
-    )
+    for (name, damage) in [
+        ("the empty file", Damage::CutTo(0)),
+        ("49 inputs", Damage::Replaced(0, 49)),
+        ("no outputs", Damage::Replaced(1, 0)),
+        ("cut off in its head", Damage::CutTo(5)),
+        ("an output that is no signal", Damage::Replaced(pairs, 255)),
+        (
+            "a record that is not where it is due",
+            Damage::Replaced(4, 255),
+        ),
+        ("the last byte cut off", Damage::CutTo(last)),
+        ("nine fanins", Damage::Replaced(head, 9)),
+        (
+            "a fanin that is not lower",
+            Damage::Replaced(head.saturating_add(2), 1),
+        ),
+        ("a function bit too many", Damage::Replaced(last, 22)),
+    ] {
+        let damaged = damage.apply(rt.alloc(), bytes)?;
+        match Job::read(rt.alloc(), damaged.as_slice()) {
+            Ok(_) => println!(rt; "  {name}: accepted")?,
+            Err(ReadError::NoMemory) => println!(rt; "  {name}: no memory")?,
+            Err(ReadError::Refused(refusal)) => show_refusal(rt, name, refusal)?,
+        }
+    }
+    Ok(())
 }
 
 /// Writes the job into one byte too few.
@@ -198,10 +191,8 @@ fn run(rt: &HostRuntime) -> anyhow::Result<()> {
     let length = bytes.len();
     let job = match Job::read(heap, bytes.as_slice()) {
         Ok(job) => job,
-        Err(ReadError::NoMemory) => return Err(anyhow!("no memory")),
-        Err(ReadError::Refused(_)) => {
-            return show_refusal(rt, "standard input", bytes.as_slice());
-        }
+        Err(ReadError::NoMemory) => bail!("no memory"),
+        Err(ReadError::Refused(refusal)) => return show_refusal(rt, "standard input", refusal),
     };
     let inputs = job.network().inputs();
     let nodes = job.network().rows().len();
@@ -219,7 +210,7 @@ fn run(rt: &HostRuntime) -> anyhow::Result<()> {
     };
     println!(rt; "written back: {length} bytes, {same} were read")?;
     show_short_write(rt, &job)?;
-    show_damages(rt, &job, bytes.as_slice())
+    show_damages(rt, job.network(), bytes.as_slice())
 }
 
 fn main(rt: HostRuntime) -> anyhow::Result<()> {
