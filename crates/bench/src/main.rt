@@ -77,15 +77,16 @@ impl Measurement {
     }
 
     /// One walk, with a value drawn for each input and each output's value counted.
-    fn walk<L: Measured>(&mut self, network: &Network)
-        requires { MAX_SIGNALS * type_size L.Value.row < 2 ^ 63 }
-    {
-        let mut values = [L::constant(false); MAX_SIGNALS];
-        let mut fold = [L::constant(false); MINTERMS];
+    fn walk<L: Measured>(
+        &mut self,
+        network: &Network,
+        values: &mut [L::Value; MAX_SIGNALS],
+        fold: &mut [L::Value; MINTERMS],
+    ) {
         for leaf in values.iter_mut().take(network.inputs()) {
             *leaf = L::draw(self.next());
         }
-        walk::<L>(network, None, &mut values, &mut fold);
+        walk::<L>(network, None, values, fold);
         for output in network.outputs() {
             if let Some(value) = values.get(output.0 as usize) {
                 self.add(L::count(*value));
@@ -99,8 +100,10 @@ fn checksum<L: Measured>(network: &Network, walks: u64) -> u64
     requires { MAX_SIGNALS * type_size L.Value.row < 2 ^ 63 }
 {
     let mut measurement = Measurement { state: 1, sum: 0 };
+    let mut values = [L::constant(false); MAX_SIGNALS];
+    let mut fold = [L::constant(false); MINTERMS];
     for _ in 0..walks {
-        measurement.walk::<L>(network);
+        measurement.walk::<L>(network, &mut values, &mut fold);
     }
     measurement.sum
 }
