@@ -4,25 +4,20 @@
 use job::denial::{ReadError, Refusal};
 use job::job::Job;
 use std::alloc::AllocError;
+use std::io;
 use std::io::{Read, Write};
 use std::process::ExitCode;
-use std::{fmt, io};
+use thiserror::Error;
 
 /// Why no job was written.
-#[derive(Drop)]
+#[derive(Debug, Drop, Error)]
 enum Failure {
+    #[error("refused: {0}")]
     Refused(Refusal),
+    #[error("failed: no memory")]
     NoMemory,
-    Io(io::Error),
-}
-
-impl From<ReadError> for Failure {
-    fn from(e: ReadError) -> Failure {
-        match e {
-            ReadError::Refused(refusal) => Failure::Refused(refusal),
-            ReadError::NoMemory => Failure::NoMemory,
-        }
-    }
+    #[error("failed: {0}")]
+    Io(#[from] io::Error),
 }
 
 impl From<AllocError> for Failure {
@@ -31,23 +26,11 @@ impl From<AllocError> for Failure {
     }
 }
 
-impl From<io::Error> for Failure {
-    fn from(e: io::Error) -> Failure {
-        Failure::Io(e)
-    }
-}
-
-impl fmt::Display for Failure {
-    fn fmt<W: fmt::Write>(&self, f: &mut fmt::Formatter<W>) -> fmt::Result {
-        match self {
-            Failure::Refused(refusal) => {
-                let number = refusal.cause.number();
-                let place = refusal.place;
-                let words = refusal.cause.words();
-                write!(f, "refused: {number} at {place}: {words}")
-            }
-            Failure::NoMemory => write!(f, "failed: no memory"),
-            Failure::Io(e) => write!(f, "failed: {e}"),
+impl From<ReadError> for Failure {
+    fn from(e: ReadError) -> Failure {
+        match e {
+            ReadError::Refused(refusal) => Failure::Refused(refusal),
+            ReadError::NoMemory => Failure::NoMemory,
         }
     }
 }

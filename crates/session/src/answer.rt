@@ -73,6 +73,7 @@ impl fmt::Display for Denied {
     fn fmt<W: fmt::Write>(&self, f: &mut fmt::Formatter<W>) -> fmt::Result {
         match self {
             Denied::File(refusal) => write!(f, "{} {}", refusal.cause.number(), refusal.place),
+            // Only want of memory has no number, and it is no context's refusal here.
             Denied::Context(e) => write!(f, "{}", e.number().unwrap_or(0)),
             Denied::Write(cause) => write!(f, "{}", cause.number()),
             Denied::NoMemory(e) => write!(f, "{e}"),

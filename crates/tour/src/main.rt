@@ -1,7 +1,6 @@
 //! Does one job from start to end, and prints each thing that it did.
 #![tactic(auto)]
 
-use anyhow::bail;
 use job::denial::{ReadError, Refusal};
 use job::job::Job;
 use logic::evaluate::outputs;
@@ -101,8 +100,7 @@ fn show_contexts(rt: &HostRuntime, network: &Network) -> anyhow::Result<()> {
 fn show_refusal(rt: &HostRuntime, name: &str, refusal: Refusal) -> anyhow::Result<()> {
     let Refusal { cause, place } = refusal;
     let number = cause.number();
-    let words = cause.words();
-    println!(rt; "  {name}: refused with {number} at {place}, {words}")?;
+    println!(rt; "  {name}: refused with {number} at {place}, {cause}")?;
     Ok(())
 }
 
@@ -162,8 +160,8 @@ fn show_damages(rt: &HostRuntime, network: &Network, bytes: &[u8]) -> anyhow::Re
         let damaged = damage.apply(rt.alloc(), bytes)?;
         match Job::read(rt.alloc(), damaged.as_slice()) {
             Ok(_) => println!(rt; "  {name}: accepted")?,
-            Err(ReadError::NoMemory) => println!(rt; "  {name}: no memory")?,
             Err(ReadError::Refused(refusal)) => show_refusal(rt, name, refusal)?,
+            Err(e) => println!(rt; "  {name}: {e}")?,
         }
     }
     Ok(())
@@ -177,8 +175,7 @@ fn show_short_write(rt: &HostRuntime, job: &Job) -> anyhow::Result<()> {
         Ok(length) => println!(rt; "written into {room} bytes: {length}")?,
         Err(cause) => {
             let number = cause.number();
-            let words = cause.words();
-            println!(rt; "written into {room} bytes: refused with {number}, {words}")?
+            println!(rt; "written into {room} bytes: refused with {number}, {cause}")?
         }
     }
     Ok(())
@@ -191,8 +188,8 @@ fn run(rt: &HostRuntime) -> anyhow::Result<()> {
     let length = bytes.len();
     let job = match Job::read(heap, bytes.as_slice()) {
         Ok(job) => job,
-        Err(ReadError::NoMemory) => bail!("no memory"),
         Err(ReadError::Refused(refusal)) => return show_refusal(rt, "standard input", refusal),
+        Err(e) => return Err(e.into()),
     };
     let inputs = job.network().inputs();
     let nodes = job.network().rows().len();
