@@ -82,6 +82,7 @@ fn show_context(rt: &HostRuntime, network: &Network, n: usize, scope: Scope) -> 
     }
 }
 
+/// Two contexts of each node, which is named by its number alone.
 fn show_contexts(rt: &HostRuntime, network: &Network) -> anyhow::Result<()> {
     for n in 0..network.rows().len() {
         println!(rt; "node {n} in the whole context:")?;
