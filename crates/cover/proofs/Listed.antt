@@ -17,6 +17,7 @@ use Rattle.roll.proofs.Members.{has-none, has_here, has_there, has-cases}
 use Rattle.cover.specs.Cubes.{in_cube}
 use Rattle.cover.specs.Tables.{IsSet, Meets, members, members_below}
 use Rattle.cover.specs.Covers.{care_with, minterms_on, minterms_off, touches}
+use Rattle.cover.specs.declared.care.CareFunction.{CareFunction}
 use Rattle.cover.specs.declared.cube.Cube.{Cube}
 
 -- what is kept of the numbers from a on
@@ -92,19 +93,23 @@ members-is : (f : ℕ) (s : Function) (p : ℕ → Bool) → f ≤ max_fanins �
 unfolding members
 members-is f s p l e = below-is (2 ^ f) minterms s p (pow_mono l) e
 
-pub members-on : (f : ℕ) (s function care : Function) → f ≤ max_fanins → IsSet s (λ y. ltb y (2 ^ f) && care_with true function care y) → members s ≡ minterms_on f function care
-unfolding minterms_on
-members-on f s function care l e = members-is f s (care_with true function care) l e
+-- the table s is that of the care minterms at which the function is b
+abbrev pub IsSide : CareFunction → Bool → Function → Type 0
+IsSide target b s = IsSet s (λ y. ltb y (2 ^ target.fanins.count) && care_with b target y)
 
-pub below_on : (f : ℕ) (s function care : Function) → f ≤ max_fanins → IsSet s (λ y. ltb y (2 ^ f) && care_with true function care y) → members_below (2 ^ f) s ≡ minterms_on f function care
+pub members-on : (target : CareFunction) (s : Function) → IsSide target true s → members s ≡ minterms_on target
 unfolding minterms_on
-below_on f s function care l e =
-    let m : 2 ^ f ≤ minterms = pow_mono l in
-    below-is (2 ^ f) (2 ^ f) s (care_with true function care) (omega arith) (λ y h. e y (omega arith))
+members-on target s e = members-is target.fanins.count s (care_with true target) target.fanins.few e
 
-pub members-off : (f : ℕ) (s function care : Function) → f ≤ max_fanins → IsSet s (λ y. ltb y (2 ^ f) && care_with false function care y) → members s ≡ minterms_off f function care
+pub below_on : (target : CareFunction) (s : Function) → IsSide target true s → members_below (2 ^ target.fanins.count) s ≡ minterms_on target
+unfolding minterms_on
+below_on target s e =
+    let m : 2 ^ target.fanins.count ≤ minterms = pow_mono target.fanins.few in
+    below-is (2 ^ target.fanins.count) (2 ^ target.fanins.count) s (care_with true target) (omega arith) (λ y h. e y (omega arith))
+
+pub members-off : (target : CareFunction) (s : Function) → IsSide target false s → members s ≡ minterms_off target
 unfolding minterms_off
-members-off f s function care l e = members-is f s (care_with false function care) l e
+members-off target s e = members-is target.fanins.count s (care_with false target) target.fanins.few e
 
 -- a number below 2 ^ (j + f) is below 2 ^ f exactly if its bits from f on are 0
 high_bits : (f j y : ℕ) → y < 2 ^ (j + f) → eqb (bit_and y (2 ^ (j + f) - 2 ^ f)) 0 ≡ ltb y (2 ^ f)

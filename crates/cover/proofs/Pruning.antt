@@ -1,7 +1,7 @@
 -- Irredundancy, one cube on.
 use Rattle.std.proofs.Common.{◌≡◌, ℕ, ◌+◌, ◌-◌, ◌<◌, ◌≤◌, Bool, true, false, not, ◌&&◌, ◌||◌, List, [], ◌∷◌, ◌++◌, length, get_or, take, drop, set, Decides, sym, refl, ap, ◌∙◌, subst, ap₂, inl, inr, ⊎_elim, add-zero, arith}
 use Rattle.std.specs.List.{ContainsAt as Has}
-use Rattle.std.proofs.lemmas.List.{get_or-set_same, get_or-set_other, get_or-take, get_or-drop, length-set, length-take, length-take-le, drop_all, drop_more, drop-drop, drop-set-lt, take_more_set}
+use Rattle.std.proofs.lemmas.List.{get_or-set_same, get_or-set_other, get_or-drop, length-set, drop_all, drop_more, drop-drop, drop-set-lt, take_more_set}
 use Rattle.std.proofs.lemmas.Bool.{and_parts, and_from, and_left, and_right, or_left, or_right, or_parts, or_from, not-true, not_from_true, not_from_false, both_ways, cases_eq, cases_Bool, cond-true, cond-false}
 use Rattle.network.specs.Rows.{bit_of}
 use Rattle.network.specs.declared.row.Function.{Function}
@@ -85,45 +85,44 @@ spare-by-table on left later lone c ks cs false l s e d =
     (cases_Bool (in_cover (ks ++ cs) y)))
 
 -- cubes below i are tried, and the first `stays` places are those that stay
-pub record Prunes (on left : Function) (first cubes : List Cube) (count stays i : ℕ) : Type 0 where
+pub record Prunes (on left : Function) (first cubes : List Cube) (stays i : ℕ) : Type 0 where
   pub few : stays ≤ i
-  pub whole : pruned (members on) (take stays cubes) (drop i (take count first)) ≡ pruned (members on) [] (take count first)
+  pub whole : pruned (members on) (take stays cubes) (drop i first) ≡ pruned (members on) [] first
   pub bare : IsSet left (λ z. bit_of on z && not (in_cover (take stays cubes) z))
   pub long : length cubes ≡ length first
   pub rest : drop i cubes ≡ drop i first
 
-pub prunes-none : (on : Function) (first : List Cube) (count : ℕ) → Prunes on on first first count 0 0
-prunes-none on first count = record { few = omega arith; whole = refl; bare = λ y h. sym (and-true (bit_of on y)); long = refl; rest = refl }
+pub prunes-none : (on : Function) (first : List Cube) → Prunes on on first first 0 0
+prunes-none on first = record { few = omega arith; whole = refl; bare = λ y h. sym (and-true (bit_of on y)); long = refl; rest = refl }
 
 at_zero : (xs : List Cube) (i : ℕ) → get_or xs i no_cube ≡ get_or (drop i xs) 0 no_cube
 at_zero xs i = sym (get_or-drop i xs 0 no_cube ∙ ap (λ k. get_or xs k no_cube) (add-zero i))
 
 -- the next cube, and those behind it
-next-cube : (first cubes : List Cube) (count i : ℕ) → i < count → count ≤ length first → drop i cubes ≡ drop i first
-    → drop i (take count first) ≡ get_or cubes i no_cube ∷ drop (i + 1) (take count first)
-next-cube first cubes count i l m e =
-    let n : length (take count first) ≡ count = length-take-le count first m in
+next-cube : (first cubes : List Cube) (i : ℕ) → i < length first → drop i cubes ≡ drop i first
+    → drop i first ≡ get_or cubes i no_cube ∷ drop (i + 1) first
+next-cube first cubes i l e =
     let same : get_or cubes i no_cube ≡ get_or first i no_cube = at_zero cubes i ∙ ap (λ cs. get_or cs 0 no_cube) e ∙ sym (at_zero first i) in
-    drop_more (take count first) i no_cube (omega arith) ∙ ap (λ d. d ∷ drop (i + 1) (take count first)) (get_or-take count first i no_cube l ∙ sym same)
+    drop_more first i no_cube l ∙ ap (λ d. d ∷ drop (i + 1) first) (sym same)
 
 -- the rest of it, one on
 next-rest : (first cubes : List Cube) (i : ℕ) → drop i cubes ≡ drop i first → drop (i + 1) cubes ≡ drop (i + 1) first
 next-rest first cubes i e = sym (drop-drop 1 i cubes) ∙ ap (drop 1) e ∙ drop-drop 1 i first
 
 -- the next cube goes
-pub prunes-drop : (on left : Function) (first cubes : List Cube) (count stays i : ℕ) → i < count → count ≤ length first
-    → spare (members on) (get_or cubes i no_cube) (take stays cubes ++ drop (i + 1) (take count first)) ≡ true
-    → Prunes on left first cubes count stays i → Prunes on left first cubes count stays (i + 1)
-prunes-drop on left first cubes count stays i l m t p =
+pub prunes-drop : (on left : Function) (first cubes : List Cube) (stays i : ℕ) → i < length first
+    → spare (members on) (get_or cubes i no_cube) (take stays cubes ++ drop (i + 1) first) ≡ true
+    → Prunes on left first cubes stays i → Prunes on left first cubes stays (i + 1)
+prunes-drop on left first cubes stays i l t p =
     let few = p.few in
     let ks = take stays cubes in
     let c = get_or cubes i no_cube in
-    let cs = drop (i + 1) (take count first) in
+    let cs = drop (i + 1) first in
     let step : pruned (members on) ks (c ∷ cs) ≡ pruned (members on) ks cs =
     cond-true (spare (members on) c (ks ++ cs)) (pruned (members on) ks cs) (pruned (members on) (ks ++ c ∷ []) cs) t in
     record {
       few = omega arith;
-      whole = sym step ∙ sym (ap (pruned (members on) ks) (next-cube first cubes count i l m p.rest)) ∙ p.whole;
+      whole = sym step ∙ sym (ap (pruned (members on) ks) (next-cube first cubes i l p.rest)) ∙ p.whole;
       bare = p.bare;
       long = p.long;
       rest = next-rest first cubes i p.rest;
@@ -136,22 +135,22 @@ less true false false = refl
 less false b c = refl
 
 -- the next cube stays
-pub prunes-keep : (on left less : Function) (first cubes : List Cube) (count stays i : ℕ) → i < count → count ≤ length first
-    → spare (members on) (get_or cubes i no_cube) (take stays cubes ++ drop (i + 1) (take count first)) ≡ false
+pub prunes-keep : (on left less : Function) (first cubes : List Cube) (stays i : ℕ) → i < length first
+    → spare (members on) (get_or cubes i no_cube) (take stays cubes ++ drop (i + 1) first) ≡ false
     → IsSet less (λ z. bit_of left z && not (in_cube (get_or cubes i no_cube) z))
-    → Prunes on left first cubes count stays i → Prunes on less first (set cubes stays (get_or cubes i no_cube)) count (stays + 1) (i + 1)
-prunes-keep on left less₀ first cubes count stays i l m t s p =
+    → Prunes on left first cubes stays i → Prunes on less first (set cubes stays (get_or cubes i no_cube)) (stays + 1) (i + 1)
+prunes-keep on left less₀ first cubes stays i l t s p =
     let few = p.few in
     let long = p.long in
     let ks = take stays cubes in
     let c = get_or cubes i no_cube in
-    let cs = drop (i + 1) (take count first) in
+    let cs = drop (i + 1) first in
     let front : take (stays + 1) (set cubes stays c) ≡ ks ++ c ∷ [] = take_more_set cubes stays c (omega arith) in
     let step : pruned (members on) ks (c ∷ cs) ≡ pruned (members on) (ks ++ c ∷ []) cs =
     cond-false (spare (members on) c (ks ++ cs)) (pruned (members on) ks cs) (pruned (members on) (ks ++ c ∷ []) cs) t in
     record {
       few = omega arith;
-      whole = ap (λ k. pruned (members on) k cs) front ∙ sym step ∙ sym (ap (pruned (members on) ks) (next-cube first cubes count i l m p.rest)) ∙ p.whole;
+      whole = ap (λ k. pruned (members on) k cs) front ∙ sym step ∙ sym (ap (pruned (members on) ks) (next-cube first cubes i l p.rest)) ∙ p.whole;
       bare = λ z h. s z h ∙ ap (λ b. b && not (in_cube c z)) (p.bare z h) ∙ less (bit_of on z) (in_cover ks z) (in_cube c z)
           ∙ ap (λ b. bit_of on z && not b) (sym (in_cover-append ks (c ∷ []) z) ∙ ap (λ ds. in_cover ds z) (sym front));
       long = length-set cubes stays c ∙ long;
@@ -159,13 +158,13 @@ prunes-keep on left less₀ first cubes count stays i l m t s p =
     }
 
 -- all cubes are tried
-pub prunes-all : (on left : Function) (first cubes : List Cube) (count stays i : ℕ) → i ≡ count → Prunes on left first cubes count stays i
-    → take stays cubes ≡ pruned (members on) [] (take count first)
-prunes-all on left first cubes count stays i e p =
-    let n : drop i (take count first) ≡ [] = drop_all i (take count first) (simp length-take (omega arith)) in
+pub prunes-all : (on left : Function) (first cubes : List Cube) (stays i : ℕ) → length first ≤ i → Prunes on left first cubes stays i
+    → take stays cubes ≡ pruned (members on) [] first
+prunes-all on left first cubes stays i e p =
+    let n : drop i first ≡ [] = drop_all i first e in
     sym (ap (pruned (members on) (take stays cubes)) n) ∙ p.whole
 
-pub prunes-at : (on : Function) {left left' : Function} (first : List Cube) {cubes cubes' : List Cube} (count : ℕ) {stays stays' : ℕ} (i : ℕ) → left ≡ left' → cubes ≡ cubes' → stays ≡ stays'
-    → Prunes on left' first cubes' count stays' i → Prunes on left first cubes count stays i
-prunes-at on {left} {left'} first {cubes} {cubes'} count {stays} {stays'} i a b e p =
-    subst (λ t. Prunes on t first cubes count stays i) (sym a) (subst (λ cs. Prunes on left' first cs count stays i) (sym b) (subst (λ n. Prunes on left' first cubes' count n i) (sym e) p))
+pub prunes-at : (on : Function) {left left' : Function} (first : List Cube) {cubes cubes' : List Cube} {stays stays' : ℕ} (i : ℕ) → left ≡ left' → cubes ≡ cubes' → stays ≡ stays'
+    → Prunes on left' first cubes' stays' i → Prunes on left first cubes stays i
+prunes-at on {left} {left'} first {cubes} {cubes'} {stays} {stays'} i a b e p =
+    subst (λ t. Prunes on t first cubes stays i) (sym a) (subst (λ cs. Prunes on left' first cs stays i) (sym b) (subst (λ n. Prunes on left' first cubes' n i) (sym e) p))

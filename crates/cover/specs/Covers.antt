@@ -1,24 +1,24 @@
--- The cover of a node: its function and its care set are truth tables, and f is the number of its fanins.
+-- The cover of a function on its care set. Elsewhere f is a number of fanins.
 use Rattle.std.specs.Prelude.{ℕ, ◌^◌, Bool, true, false, cond, not, ◌&&◌, ◌||◌, List, [], ◌∷◌, ◌++◌, filter}
 use Rattle.std.specs.List.{range_with_len}
 use Rattle.network.specs.Rows.{bit_of}
-use Rattle.network.specs.declared.row.Function.{Function}
 use Rattle.roll.specs.Rolls.{entered}
 use Rattle.cover.specs.Cubes.{in_cube, in_cover, struck, start, cube_below}
+use Rattle.cover.specs.declared.care.CareFunction.{CareFunction}
 use Rattle.cover.specs.declared.cube.Cube.{Cube}
 
 -- y is care, and the function's value at it is b
-abbrev pub care_with : Bool → Function → Function → ℕ → Bool
-care_with true function care y = bit_of care y && bit_of function y
-care_with false function care y = bit_of care y && not (bit_of function y)
+abbrev pub care_with : Bool → CareFunction → ℕ → Bool
+care_with true target y = bit_of target.care y && bit_of target.function y
+care_with false target y = bit_of target.care y && not (bit_of target.function y)
 
 -- the minterms that are care with function 1, ascending
-unfoldable pub minterms_on : ℕ → Function → Function → List ℕ
-minterms_on f function care = filter (care_with true function care) (range_with_len 0 (2 ^ f))
+unfoldable pub minterms_on : CareFunction → List ℕ
+minterms_on target = filter (care_with true target) (range_with_len 0 (2 ^ target.fanins.count))
 
 -- the minterms that are care with function 0, ascending
-unfoldable pub minterms_off : ℕ → Function → Function → List ℕ
-minterms_off f function care = filter (care_with false function care) (range_with_len 0 (2 ^ f))
+unfoldable pub minterms_off : CareFunction → List ℕ
+minterms_off target = filter (care_with false target) (range_with_len 0 (2 ^ target.fanins.count))
 
 -- one of the minterms is in the cube
 abbrev pub touches : List ℕ → Cube → Bool
@@ -46,5 +46,5 @@ pruned on ks [] = ks
 pruned on ks (c ∷ cs) = cond (spare on c (ks ++ cs)) (pruned on ks cs) (pruned on (ks ++ c ∷ []) cs)
 
 -- the cover, with the order in which literals are tried
-unfoldable pub cover_of : ℕ → Function → Function → List ℕ → List Cube
-cover_of f function care order = pruned (minterms_on f function care) [] (gathered f order (minterms_off f function care) (minterms_on f function care) [])
+unfoldable pub cover_of : CareFunction → List ℕ → List Cube
+cover_of target order = pruned (minterms_on target) [] (gathered target.fanins.count order (minterms_off target) (minterms_on target) [])

@@ -8,7 +8,7 @@ use roll::order::Ranked;
 
 /// Bit i of the mask is a literal on fanin i, and bit i of the values says which. A minterm is in the
 /// cube if it has the values under the mask.
-#[derive(Clone, Copy)]
+#[derive(Clone, Copy, PartialEq, Eq, Debug)]
 pub struct Cube {
     pub mask: u16,
     pub values: u16,
@@ -25,11 +25,7 @@ impl Ranked for Cube {
     ghost connected = { Prim.search rules };
 
     fn precedes(&self, other: &Cube) -> bool {
-        if self.mask == other.mask {
-            self.values < other.values
-        } else {
-            self.mask < other.mask
-        }
+        (self.mask, self.values) < (other.mask, other.values)
     }
 }
 

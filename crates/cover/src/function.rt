@@ -5,7 +5,7 @@ ghost use Rattle.cover.specs.Cubes.{in_cover};
 ghost use Rattle.cover.specs.Laws.{Lawful, Agrees};
 ghost use Rattle.cover.specs.Tables.{IsSet};
 
-use crate::care::domain;
+use crate::care::{CareFunction, domain};
 use crate::cube::Cube;
 use crate::fanins::Fanins;
 use crate::shape::table;
@@ -35,7 +35,7 @@ fn held(fanins: Fanins, cubes: &[Cube]) -> Function
 pub fn function_of(fanins: Fanins, cubes: &[Cube]) -> Function
     ensures value { IsSet result (λ y. nat_lt y (2 ^ fanins.count) && in_cover cubes.now y) }
     ensures clean { Clean fanins.count result }
-    ensures agrees { (function care : Function) → Lawful fanins.count function care cubes.now → Agrees fanins.count function care result }
+    ensures agrees { (target : CareFunction) → target.fanins.count ≡ fanins.count → Lawful target cubes.now → Agrees target result }
 {
     held(fanins, cubes)
 }

@@ -1,7 +1,7 @@
 //! Covers of a node: cubes, expansion, irredundancy.
 #![tactic(auto)]
 
-mod care;
+pub mod care;
 pub mod cover;
 pub mod cube;
 mod expand;

@@ -23,22 +23,21 @@ fn fill_later(cubes: &[Cube], later: &mut [Function])
     }
 }
 
-/// In list order a cube of the first `count` places goes if its on-minterms all lie in others still
-/// there; the others move up. How many cubes stay.
-pub fn prune(on: Function, cubes: &mut [Cube], count: usize) -> usize
-    requires fits { count ≤ length cubes.old }
-    requires few { count ≤ minterms }
-    ensures cubes { take result cubes.new ≡ pruned (members on) [] (take count cubes.old) }
-    ensures few { result ≤ count }
-    ensures rest { drop count cubes.new ≡ drop count cubes.old }
+/// In list order a cube goes if its on-minterms all lie in others still there; the others move up. How
+/// many cubes stay.
+pub fn prune(on: Function, cubes: &mut [Cube]) -> usize
+    requires { length cubes.old ≤ minterms }
+    ensures cubes { take result cubes.new ≡ pruned (members on) [] cubes.old }
+    ensures few { result ≤ length cubes.old }
 {
     let mut later = [none(); MINTERMS];
-    fill_later(&cubes[0..count], &mut later);
+    fill_later(cubes, &mut later);
     let mut left = on;
     let mut stays = 0;
-    for i in 0..count {
+    // Cubes move up within the list that is read, so no iterator can lend both.
+    for (i, behind) in later[..cubes.len()].iter().enumerate() {
         let cube = cubes[i];
-        let lone = without(left, later[i]);
+        let lone = without(left, *behind);
         if meets(&lone, cube) {
             cubes[stays] = cube;
             left = without(left, table(cube));

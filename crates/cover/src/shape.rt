@@ -67,8 +67,8 @@ pub fn table(cube: Cube) -> Function
 {
     let low = low_byte(cube);
     let mut bytes = [0; FUNCTION_BYTES];
-    for k in 0..FUNCTION_BYTES {
-        bytes[k] = byte(cube, low, k);
+    for (k, b) in bytes.iter_mut().enumerate() {
+        *b = byte(cube, low, k);
     }
     Function { bytes }
 }
@@ -78,10 +78,5 @@ pub fn meets(set: &Function, cube: Cube) -> bool
     ensures { Decides result (Meets set.now cube) }
 {
     let low = low_byte(cube);
-    for k in 0..FUNCTION_BYTES {
-        if set.bytes[k] & byte(cube, low, k) != 0 {
-            return true;
-        }
-    }
-    false
+    set.bytes.iter().enumerate().any(|(k, b)| *b & byte(cube, low, k) != 0)
 }

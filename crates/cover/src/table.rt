@@ -1,5 +1,6 @@
 //! Sets of minterms as truth tables: a minterm is in the set if the value at it is 1.
-ghost use Rattle.std.specs.Prelude.{◌≡◌, ℕ, ◌<◌, false, not, ◌&&◌, ◌||◌};
+ghost use Rattle.std.specs.Prelude.{◌≡◌, ℕ, ◌<◌, false, not, ◌&&◌, ◌||◌, slice_index};
+ghost use Rattle.network.specs.Limits.{function_bytes};
 ghost use Rattle.network.specs.Rows.{bit_of};
 ghost use Rattle.cover.specs.Tables.{IsSet};
 
@@ -15,35 +16,35 @@ pub fn none() -> Function
     }
 }
 
+/// The table of which each byte is made from the two that stand there in `a` and `b`.
+fn combined<F: Fn(u8, u8) -> u8>(a: Function, b: Function, op: F) -> Function
+    requires { F.IsAlwaysCallable op }
+    ensures { (k : ℕ) → k < function_bytes → F.post op (slice_index a.bytes k) (slice_index b.bytes k) (slice_index result.bytes k) }
+{
+    let mut bytes = a.bytes;
+    for (k, byte) in bytes.iter_mut().enumerate() {
+        *byte = op(*byte, b.bytes[k]);
+    }
+    Function { bytes }
+}
+
 /// The minterms of either.
 pub fn union(a: Function, b: Function) -> Function
     ensures { IsSet result (λ y. bit_of a y || bit_of b y) }
 {
-    let mut bytes = a.bytes;
-    for k in 0..FUNCTION_BYTES {
-        bytes[k] |= b.bytes[k];
-    }
-    Function { bytes }
+    combined(a, b, |x, y| x | y)
 }
 
 /// The minterms of both.
 pub fn common(a: Function, b: Function) -> Function
     ensures { IsSet result (λ y. bit_of a y && bit_of b y) }
 {
-    let mut bytes = a.bytes;
-    for k in 0..FUNCTION_BYTES {
-        bytes[k] &= b.bytes[k];
-    }
-    Function { bytes }
+    combined(a, b, |x, y| x & y)
 }
 
 /// The minterms of the first that are not in the second.
 pub fn without(a: Function, b: Function) -> Function
     ensures { IsSet result (λ y. bit_of a y && not (bit_of b y)) }
 {
-    let mut bytes = a.bytes;
-    for k in 0..FUNCTION_BYTES {
-        bytes[k] &= !b.bytes[k];
-    }
-    Function { bytes }
+    combined(a, b, |x, y| x & !y)
 }

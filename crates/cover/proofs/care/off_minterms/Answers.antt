@@ -1,5 +1,0 @@
-use Rattle.std.proofs.Common.{◌&&◌, ◌∙◌, ap₂}
-use Rattle.cover.proofs.care.off_minterms.Goals as goal
-
-pub returns : goal.returns
-returns c = λ y h. c.common.ensures y h ∙ ap₂ ◌&&◌ (c.domain.ensures y h) (c.without.ensures y h)
