@@ -11,3 +11,4 @@ pub mod Covering
 pub mod Irredundancy
 pub mod Laid
 pub mod Claims
+pub mod Made

@@ -69,9 +69,9 @@ byte-bit c y =
     p ∙ ap (λ b. t && b) q ∙ sym (split-cube c y)
 
 -- the bytes of a cube make its table
-pub bytes-set : (c : Cube) (r : Function) (k : ℕ) → function_bytes ≤ k → ((j : ℕ) → j < k → get_or r.bytes j 0 ≡ byte_of c j) → IsSet r (in_cube c)
+pub bytes-set : (c : Cube) (r : Function) → ((j : ℕ) → j < function_bytes → get_or r.bytes j 0 ≡ byte_of c j) → IsSet r (in_cube c)
 unfolding bit_of
-bytes-set c r k l f y h = ap (λ n. bit_at n (y % 8)) (f (y / 8) (omega arith)) ∙ byte-bit c y
+bytes-set c r f y h = ap (λ n. bit_at n (y % 8)) (f (y / 8) (omega arith)) ∙ byte-bit c y
 
 agrees-small : (b d : Bool) → agrees b d 0xaa < 256
 agrees-small true true = lit< tt

@@ -6,8 +6,8 @@ ghost use Rattle.cover.specs.Bytes.{agrees, low_byte, byte_of};
 ghost use Rattle.cover.specs.Tables.{IsSet, Meets};
 
 use crate::cube::Cube;
-use network::limits::FUNCTION_BYTES;
 use network::row::Function;
+use std::array;
 
 /// Of the eight minterms of a byte, those in which fanin 0 is 1.
 const AXIS_0: u8 = 0xaa;
@@ -66,11 +66,9 @@ pub fn table(cube: Cube) -> Function
     ensures { IsSet result (in_cube cube) }
 {
     let low = low_byte(cube);
-    let mut bytes = [0; FUNCTION_BYTES];
-    for (k, b) in bytes.iter_mut().enumerate() {
-        *b = byte(cube, low, k);
+    Function {
+        bytes: array::from_fn(|k| byte(cube, low, k)),
     }
-    Function { bytes }
 }
 
 /// Whether one of the minterms is in the cube.

@@ -6,6 +6,7 @@ ghost use Rattle.cover.specs.Tables.{IsSet};
 
 use network::limits::FUNCTION_BYTES;
 use network::row::Function;
+use std::array;
 
 /// No minterms.
 pub fn none() -> Function
@@ -21,11 +22,9 @@ fn combined<F: Fn(u8, u8) -> u8>(a: Function, b: Function, op: F) -> Function
     requires { F.IsAlwaysCallable op }
     ensures { (k : ℕ) → k < function_bytes → F.post op (slice_index a.bytes k) (slice_index b.bytes k) (slice_index result.bytes k) }
 {
-    let mut bytes = a.bytes;
-    for (k, byte) in bytes.iter_mut().enumerate() {
-        *byte = op(*byte, b.bytes[k]);
+    Function {
+        bytes: array::from_fn(|k| op(a.bytes[k], b.bytes[k])),
     }
-    Function { bytes }
 }
 
 /// The minterms of either.
