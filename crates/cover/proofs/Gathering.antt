@@ -8,7 +8,7 @@ use Rattle.std.proofs.lemmas.Bool.{and_parts, and_cases, cond-true, cond-false, 
 use Rattle.network.specs.Limits.{minterms}
 use Rattle.network.specs.Rows.{bit_of}
 use Rattle.network.specs.declared.row.Function.{Function}
-use Rattle.roll.specs.Rolls.{IsRoll, entered}
+use Rattle.roll.specs.Rolls.{entered}
 use Rattle.roll.specs.Adding.{Adds, grown}
 use Rattle.roll.specs.declared.added.Added.{Added}
 use Rattle.roll.specs.declared.added.Added.TheVariants.{Entered, Present, Full}
@@ -23,7 +23,6 @@ use Rattle.cover.specs.declared.cube.Cube.{Cube}
 
 -- the on-minterms below y are seen, and the first `count` places are their cubes; there are n minterms
 pub record Gathers (f n : ℕ) (off : List ℕ) (on left : Function) (first places : List Cube) (count y : ℕ) : Type 0 where
-  pub roll : IsRoll cube_below count places
   pub few : count ≤ y
   pub whole : gathered f (range_with_len 0 f) off (filter (bit_of on) (range_with_len y (n - y))) (take count places) ≡ gathered f (range_with_len 0 f) off (members_below n on) []
   pub bare : IsSet left (λ z. bit_of on z && not (in_cover (take count places) z))
@@ -60,7 +59,7 @@ gathers-skip f n off on left first places count y l h e g =
     λ o. let i : in_cover cs y ≡ true = ⊎_elim (λ x. absurd (both_ways (bit_of on y) x o)) (λ x. not-false (in_cover cs y) x) (and_cases (bit_of on y) (not (in_cover cs y)) t) in
     one_on f n off on y cs h o ∙ ap (seen f off on (y + 1) (n - (y + 1))) (cond-true (in_cover cs y) cs (entered cube_below (expanded off (range_with_len 0 f) (start f y)) cs) i) in
     let same : seen f off on y (n - y) cs ≡ seen f off on (y + 1) (n - (y + 1)) cs = ⊎_elim on-case (no-on f n off on y cs h) (cases_Bool (bit_of on y)) in
-    record { roll = g.roll; few = omega arith; whole = sym same ∙ g.whole; bare = g.bare; long = g.long; rest = g.rest }
+    record { few = omega arith; whole = sym same ∙ g.whole; bare = g.bare; long = g.long; rest = g.rest }
 
 pub in_cover-has : (cs : List Cube) (c : Cube) (y : ℕ) → Has cs c → in_cube c y ≡ true → in_cover cs y ≡ true
 in_cover-has [] c y h e = absurd (has-none c h)
@@ -89,17 +88,17 @@ less false b c = refl
 -- an on-minterm that is in no cube: its cube is entered
 gathers-add : (f n : ℕ) (off : List ℕ) (on left less : Function) (first places after : List Cube) (count y : ℕ) (cube : Cube) (r : Added) → n ≤ minterms → n ≤ length first → y < n
     → bit_of left y ≡ true → cube ≡ expanded off (range_with_len 0 f) (start f y) → in_cube cube y ≡ true → IsSet less (λ z. bit_of left z && not (in_cube cube z))
-    → Adds cube_below cube count places r after → IsRoll cube_below (count + grown r) after
+    → Adds cube_below cube count places r after
     → Gathers f n off on left first places count y → Gathers f n off on less first after (count + grown r) (y + 1)
-gathers-add f n off on left less₀ first places after count y cube Present l room h e x i s a w g =
+gathers-add f n off on left less₀ first places after count y cube Present l room h e x i s a g =
     let t = and_parts (bit_of on y) (not (in_cover (take count places) y)) (sym (g.bare y (omega arith)) ∙ e) in
     absurd (both_ways (in_cover (take count places) y) (not-true (in_cover (take count places) y) t.1) (in_cover-has (take count places) cube y a.0 i))
-gathers-add f n off on left less₀ first places after count y cube Full l room h e x i s a w g =
+gathers-add f n off on left less₀ first places after count y cube Full l room h e x i s a g =
     let long = g.long in
     let few = g.few in
     let full = a.1 in
     absurd (omega arith)
-gathers-add f n off on left less₀ first places after count y cube Entered l room h e x i s a w g =
+gathers-add f n off on left less₀ first places after count y cube Entered l room h e x i s a g =
     let cs = take count places in
     let t = and_parts (bit_of on y) (not (in_cover cs y)) (sym (g.bare y (omega arith)) ∙ e) in
     let few = g.few in
@@ -110,7 +109,6 @@ gathers-add f n off on left less₀ first places after count y cube Entered l ro
     ∙ sym (one_on f n off on y cs h t.0) ∙ g.whole in
     let m : length (entered cube_below cube cs) ≡ count + 1 = length-entered cube_below cube cs ∙ ap suc (length-take-le count places (le_of_lt a.1)) ∙ sym (add-one count) in
     record {
-      roll = w;
       few = omega arith;
       whole = whole;
       bare = λ z k. s z k ∙ ap (λ b. b && not (in_cube cube z)) (g.bare z k) ∙ less (bit_of on z) (in_cover cs z) (in_cube cube z) ∙ ap (λ b. bit_of on z && not b) (sym (in_cover-entered cube cs z) ∙ ap (λ ds. in_cover ds z) (sym es));
@@ -120,19 +118,18 @@ gathers-add f n off on left less₀ first places after count y cube Entered l ro
 
 pub gathers-added : (f n : ℕ) (off : List ℕ) (on left less : Function) (first places after : List Cube) (count count' y : ℕ) (cube : Cube) (r : Added) → n ≤ minterms → n ≤ length first → y < n
     → bit_of left y ≡ true → cube ≡ expanded off (range_with_len 0 f) (start f y) → in_cube cube y ≡ true → IsSet less (λ z. bit_of left z && not (in_cube cube z))
-    → Adds cube_below cube count places r after → count' ≡ count + grown r → IsRoll cube_below count' after
+    → Adds cube_below cube count places r after → count' ≡ count + grown r
     → Gathers f n off on left first places count y → Gathers f n off on less first after count' (y + 1)
-gathers-added f n off on left less₀ first places after count count' y cube r l room h e x i s a k w g =
+gathers-added f n off on left less₀ first places after count count' y cube r l room h e x i s a k g =
     subst (λ m. Gathers f n off on less₀ first after m (y + 1)) (sym k)
-    (gathers-add f n off on left less₀ first places after count y cube r l room h e x i s a (subst (λ m. IsRoll cube_below m after) k w) g)
+    (gathers-add f n off on left less₀ first places after count y cube r l room h e x i s a g)
 
 -- nothing is seen yet
-pub gathers-none : (f n : ℕ) (off : List ℕ) (on : Function) (places : List Cube) (count : ℕ) → count ≡ 0 → IsRoll cube_below count places → Gathers f n off on on places places count 0
+pub gathers-none : (f n : ℕ) (off : List ℕ) (on : Function) (places : List Cube) (count : ℕ) → count ≡ 0 → Gathers f n off on on places places count 0
 unfolding members_below
-gathers-none f n off on places count e r =
+gathers-none f n off on places count e =
     let z : take count places ≡ [] = ap (λ k. take k places) e in
     record {
-      roll = r;
       few = omega arith;
       whole = ap₂ (λ k cs. seen f off on 0 k cs) (sub-zero n) z;
       bare = λ y h. sym (ap (λ cs. bit_of on y && not (in_cover cs y)) z ∙ and-true (bit_of on y));

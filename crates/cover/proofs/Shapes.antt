@@ -1,5 +1,5 @@
 -- The minterms of a cube, byte by byte.
-use Rattle.std.proofs.Common.{◌≡◌, ℕ, ◌+◌, ◌*◌, ◌/◌, ◌%◌, ◌^◌, ◌<◌, ◌≤◌, Bool, true, false, cond, not, ◌&&◌, eqb, length, get_or, Decides, zero-add, sym, refl, ap, ◌∙◌, ap₂, inl, inr, lt_of_le_of_lt, mod-lt, div-add-mod', arith, lit<}
+use Rattle.std.proofs.Common.{◌≡◌, ℕ, ◌+◌, ◌*◌, ◌/◌, ◌%◌, ◌^◌, ◌<◌, Bool, true, false, cond, not, ◌&&◌, eqb, length, get_or, Decides, zero-add, sym, refl, ap, ◌∙◌, ap₂, inl, inr, lt_of_le_of_lt, mod-lt, div-add-mod', arith, lit<}
 use lib.Bits.{bit_and, and_block, and_le_l}
 use Rattle.std.proofs.lemmas.Nat.{and_le_r}
 use Rattle.std.proofs.lemmas.List.{get_or_default}
