@@ -1,12 +1,11 @@
 -- The cover as it lies in the list.
 use Rattle.std.proofs.Common.{◌≡◌, ℕ, ◌+◌, ◌-◌, ◌^◌, ◌<◌, ◌≤◌, Bool, true, false, ◌||◌, List, [], ◌∷◌, ◌++◌, length, get_or, take, drop, replicate, sym, refl, ap, ◌∙◌, ap₂, arith}
 use borrow.Rule.Slice.PartMut.{put_mid}
-use lib.Count.{ones}
 use Rattle.std.specs.List.{range_with_len}
 use Rattle.std.proofs.lemmas.List.{take_more, take-append-le, drop_all, append-nil, length-take, length-drop}
 use Rattle.network.specs.Rows.{bit_of}
 use Rattle.network.specs.declared.row.Function.{Function}
-use Rattle.cover.specs.Cubes.{in_cube, in_cover, literals, no_cube}
+use Rattle.cover.specs.Cubes.{in_cube, in_cover, no_cube}
 use Rattle.cover.specs.Tables.{IsSet, members, members_below}
 use Rattle.cover.specs.Covers.{gathered, pruned, cover_of}
 use Rattle.cover.specs.Answers.{rising_cover}
@@ -33,13 +32,6 @@ written cs ks rest blanks s n h e m b =
     let none : drop (length ps - s) (drop s ps) ≡ [] = drop_all (length ps - s) (drop s ps) (omega (arith, length-drop s ps)) in
     let size : length (take (length ps - s) (drop s ps)) ≡ n - s = simp (length-take, length-drop) (omega (arith, m)) in
     ap₂ (λ (xs ys : List Cube). xs ++ ys) front (ap₂ (λ (xs ys : List Cube). xs ++ ys) (b ∙ ap (λ k. replicate k no_cube) size) none ∙ append-nil (replicate (n - s) no_cube))
-
-literals-push : (cs : List Cube) (c : Cube) → literals (cs ++ c ∷ []) ≡ literals cs + ones c.mask
-literals-push [] c = omega arith
-literals-push (d ∷ ds) c = let r = literals-push ds c in omega (arith, r)
-
-pub literals-more : (cs : List Cube) (i : ℕ) → i < length cs → literals (take (i + 1) cs) ≡ literals (take i cs) + ones (get_or cs i no_cube).mask
-literals-more cs i h = ap literals (take_more cs i no_cube h) ∙ literals-push (take i cs) (get_or cs i no_cube)
 
 or-false : (a : Bool) → (a || false) ≡ a
 or-false true = refl

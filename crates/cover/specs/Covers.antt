@@ -1,6 +1,6 @@
 -- The cover of a function on its care set. Elsewhere f is a number of fanins.
 use Rattle.std.specs.Prelude.{ℕ, ◌^◌, Bool, true, false, cond, not, ◌&&◌, ◌||◌, List, [], ◌∷◌, ◌++◌, filter}
-use Rattle.std.specs.List.{range_with_len}
+use Rattle.std.specs.List.{range_with_len, list_any, list_all}
 use Rattle.network.specs.Rows.{bit_of}
 use Rattle.roll.specs.Rolls.{entered}
 use Rattle.cover.specs.Cubes.{in_cube, in_cover, struck, start, cube_below}
@@ -22,8 +22,7 @@ minterms_off target = filter (care_with false target) (range_with_len 0 (2 ^ tar
 
 -- one of the minterms is in the cube
 abbrev pub touches : List ℕ → Cube → Bool
-touches [] c = false
-touches (y ∷ ys) c = in_cube c y || touches ys c
+touches ys c = list_any (in_cube c) ys
 
 -- fanins are tried in the order given: a literal goes if the larger cube holds no off-minterm
 abbrev pub expanded : List ℕ → List ℕ → Cube → Cube
@@ -37,8 +36,7 @@ gathered f order off (y ∷ on) cs = gathered f order off on (cond (in_cover cs 
 
 -- each on-minterm in c is in one of the others
 abbrev pub spare : List ℕ → Cube → List Cube → Bool
-spare [] c others = true
-spare (y ∷ on) c others = (not (in_cube c y) || in_cover others y) && spare on c others
+spare on c others = list_all (λ y. not (in_cube c y) || in_cover others y) on
 
 -- in list order a cube goes if its on-minterms all lie in others still there; ks stay
 abbrev pub pruned : List ℕ → List Cube → List Cube → List Cube

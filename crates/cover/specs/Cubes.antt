@@ -1,5 +1,6 @@
 -- Cubes, and the minterms in them.
-use Rattle.std.specs.Prelude.{ℕ, ◌+◌, ◌-◌, ◌^◌, Bool, false, cond, ◌||◌, List, [], ◌∷◌, ◌==◌, bit_and, count_ones, nat_lt}
+use Rattle.std.specs.Prelude.{ℕ, ◌-◌, ◌^◌, Bool, cond, List, ◌==◌, bit_and, count_ones, nat_lt}
+use Rattle.std.specs.List.{list_any, sum_by}
 use Rattle.cover.specs.declared.cube.Cube.{Cube}
 
 -- y has the cube's values under its mask
@@ -8,8 +9,7 @@ in_cube c y = bit_and y c.mask == c.values
 
 -- y is in one of the cubes
 abbrev pub in_cover : List Cube → ℕ → Bool
-in_cover [] y = false
-in_cover (c ∷ cs) y = in_cube c y || in_cover cs y
+in_cover cs y = list_any (λ c. in_cube c y) cs
 
 -- all of 16 bits but bit i
 abbrev pub all_but : ℕ → ℕ
@@ -33,8 +33,7 @@ cube_below c d = cond (c.mask == d.mask) (nat_lt c.values d.values) (nat_lt c.ma
 
 -- how many literals the cubes have
 abbrev pub literals : List Cube → ℕ
-literals [] = 0
-literals (c ∷ cs) = count_ones c.mask + literals cs
+literals cs = sum_by (λ c. count_ones c.mask) cs
 
 -- what a cleared place holds
 abbrev pub no_cube : Cube

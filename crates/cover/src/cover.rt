@@ -34,11 +34,7 @@ fn count_literals(cubes: &[Cube]) -> usize
     requires { length cubes.now ≤ minterms }
     ensures { result ≡ literals cubes.now }
 {
-    let mut total = 0;
-    for cube in cubes {
-        total += cube.mask.count_ones() as usize;
-    }
-    total
+    cubes.iter().map(|c| c.mask.count_ones() as usize).sum()
 }
 
 /// Writes the cover into places for as many cubes as there are minterms. How many cubes and how many

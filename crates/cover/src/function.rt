@@ -23,19 +23,11 @@ fn united(cubes: &[Cube]) -> Function
     all
 }
 
-/// The minterms of the node in the cubes.
-fn held(fanins: Fanins, cubes: &[Cube]) -> Function
-    ensures value { IsSet result (λ y. nat_lt y (2 ^ fanins.count) && in_cover cubes.now y) }
-    ensures clean { Clean fanins.count result }
-{
-    common(domain(fanins), united(cubes))
-}
-
 /// The function that is 1 exactly in the cubes.
 pub fn function_of(fanins: Fanins, cubes: &[Cube]) -> Function
     ensures value { IsSet result (λ y. nat_lt y (2 ^ fanins.count) && in_cover cubes.now y) }
     ensures clean { Clean fanins.count result }
     ensures agrees { (target : CareFunction) → target.fanins.count ≡ fanins.count → Lawful target cubes.now → Agrees target result }
 {
-    held(fanins, cubes)
+    common(domain(fanins), united(cubes))
 }
