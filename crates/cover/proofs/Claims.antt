@@ -1,18 +1,15 @@
 -- Every cover meets the laws, in whatever order its literals were tried.
-use Rattle.std.proofs.Common.{◌≡◌, ℕ, ◌/◌, ◌%◌, ◌^◌, ◌<◌, ◌≤◌, true, false, not, ◌&&◌, eqb, ltb, List, [], ◌∷◌, ◌++◌, append_assoc, length, get_or, take, set, sym, refl, ap, ◌∙◌, subst, ap₂, inl, inr, ⊎_elim, zero-add, arith, pow_mono, shr_lt}
+use Rattle.std.proofs.Common.{◌≡◌, ℕ, ◌/◌, ◌%◌, ◌^◌, ◌<◌, ◌≤◌, true, false, not, eqb, List, [], ◌∷◌, ◌++◌, append_assoc, length, get_or, take, set, sym, refl, ap, ◌∙◌, subst, ap₂, inl, inr, ⊎_elim, zero-add, arith, pow_mono, shr_lt}
 use Rattle.std.specs.List.{range_with_len, ContainsAt as Has}
 use Rattle.std.proofs.lemmas.List.FromFn.{get_or-range_with_len, length-range_with_len}
 use Rattle.std.proofs.ByRecursion.{has_get_or}
 use Rattle.std.proofs.lemmas.List.{get_or-set_same, length-set, take_at}
-use Rattle.std.proofs.lemmas.Bool.{and_parts, and_from, or_parts, or_from, or_cases, not-true, not_from_false, both_ways, cases_Bool, cases_lt, lt-ltb}
-use Rattle.network.specs.Limits.{minterms}
+use Rattle.std.proofs.lemmas.Bool.{and_parts, and_from, or_parts, or_from, or_cases, not-true, not_from_false, both_ways, cases_Bool, cases_lt}
 use Rattle.network.specs.Rows.{bit_at, bit_of}
-use Rattle.network.specs.declared.row.Function.{Function}
 use Rattle.roll.proofs.Members.{has-none, has_here, has_there, has-cases}
 use Rattle.cover.specs.Cubes.{in_cube, in_cover, struck, start, no_cube}
 use Rattle.cover.specs.Covers.{care_with, minterms_on, minterms_off, touches, gathered, pruned, cover_of}
-use Rattle.cover.specs.Tables.{IsSet}
-use Rattle.cover.specs.Laws.{Tries, IsCare, Lawful, Agrees}
+use Rattle.cover.specs.Laws.{Tries, IsCare, Lawful}
 use Rattle.cover.specs.Answers.{rising_cover}
 use Rattle.cover.specs.declared.care.CareFunction.{CareFunction}
 use Rattle.cover.specs.declared.cube.Cube.{Cube}
@@ -128,11 +125,3 @@ front-lawful target places blanks rest s n e =
     let cs = rising_cover target in
     let front : take s (places ++ rest) ≡ cs = ap₂ (λ m ps. take m (ps ++ rest)) n e ∙ ap (take (length cs)) (append_assoc cs blanks rest) ∙ take_at cs (blanks ++ rest) (length cs) refl in
     subst (Lawful target) (sym front) (cover-lawful target (range_with_len 0 target.fanins.count) (tries-rising target.fanins.count))
-
--- the function of a lawful cover
-pub lawful-agrees : (target : CareFunction) (cs : List Cube) (g : Function) → IsSet g (λ y. ltb y (2 ^ target.fanins.count) && in_cover cs y) → Lawful target cs → Agrees target g
-lawful-agrees target cs g e s y h c =
-    let f = target.fanins.count in
-    let m : 2 ^ f ≤ minterms = pow_mono target.fanins.few in
-    let inside : bit_of g y ≡ in_cover cs y = e y (omega arith) ∙ ap (λ t. t && in_cover cs y) (lt-ltb y (2 ^ f) h) in
-    ⊎_elim (λ v. inside ∙ s.on y (h, c, v) ∙ sym v) (λ v. inside ∙ s.off y (h, c, v) ∙ sym v) (cases_Bool (bit_of target.function y))

@@ -1,5 +1,5 @@
 -- Expansion, one fanin on.
-use Rattle.std.proofs.Common.{◌≡◌, ℕ, suc, ◌+◌, ◌-◌, ◌<◌, ◌≤◌, true, false, cond, List, sym, ap, ◌∙◌, arith}
+use Rattle.std.proofs.Common.{◌≡◌, ℕ, suc, ◌+◌, ◌-◌, ◌<◌, true, false, cond, List, sym, ap, ◌∙◌, arith}
 use Rattle.std.specs.List.{range_with_len}
 use Rattle.std.proofs.lemmas.Bool.{cond-true, cond-false}
 use Rattle.cover.specs.Cubes.{struck}
@@ -22,9 +22,3 @@ pub expand-kept : (off : List ℕ) (i n : ℕ) (c larger next whole : Cube) → 
 expand-kept off i n c larger next whole h e l t x =
     let k : cond (touches off (struck c i)) c (struck c i) ≡ c = cond-true (touches off (struck c i)) c (struck c i) (ap (touches off) (sym l) ∙ t) in
     ap (expanded off (range_with_len (i + 1) (n - (i + 1)))) (x ∙ sym k) ∙ sym (ap (λ ys. expanded off ys c) (one_less i n h)) ∙ e
-
--- all fanins were tried
-pub expand-all : (off : List ℕ) (i n : ℕ) (c whole : Cube) → n ≤ i → expanded off (range_with_len i (n - i)) c ≡ whole → c ≡ whole
-expand-all off i n c whole h e =
-    let z : n - i ≡ 0 = omega arith in
-    sym (ap (λ k. expanded off (range_with_len i k) c) z) ∙ e

@@ -136,10 +136,3 @@ gathers-none f n off on places count e =
       long = refl;
       rest = refl;
     }
-
--- all are seen
-pub gathers-all : (f n : ℕ) (off : List ℕ) (on left : Function) (first places : List Cube) (count y : ℕ) → n ≤ y → Gathers f n off on left first places count y
-    → take count places ≡ gathered f (range_with_len 0 f) off (members_below n on) []
-gathers-all f n off on left first places count y h g =
-    let z : n - y ≡ 0 = omega arith in
-    sym (ap (λ k. seen f off on y k (take count places)) z) ∙ g.whole

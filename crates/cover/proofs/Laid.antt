@@ -1,18 +1,16 @@
 -- The cover as it lies in the list.
-use Rattle.std.proofs.Common.{◌≡◌, ℕ, ◌+◌, ◌-◌, ◌^◌, ◌<◌, ◌≤◌, Bool, true, false, ◌||◌, List, [], ◌∷◌, ◌++◌, length, get_or, take, drop, replicate, sym, refl, ap, ◌∙◌, ap₂, arith}
+use Rattle.std.proofs.Common.{◌≡◌, ℕ, ◌-◌, ◌^◌, ◌≤◌, true, false, List, [], ◌++◌, length, take, drop, replicate, ap, ◌∙◌, ap₂, arith}
 use borrow.Rule.Slice.PartMut.{put_mid}
 use Rattle.std.specs.List.{range_with_len}
-use Rattle.std.proofs.lemmas.List.{take_more, take-append-le, drop_all, append-nil, length-take, length-drop}
-use Rattle.network.specs.Rows.{bit_of}
+use Rattle.std.proofs.lemmas.List.{take-append-le, drop_all, append-nil, length-take, length-drop}
 use Rattle.network.specs.declared.row.Function.{Function}
-use Rattle.cover.specs.Cubes.{in_cube, in_cover, no_cube}
-use Rattle.cover.specs.Tables.{IsSet, members, members_below}
+use Rattle.cover.specs.Cubes.{no_cube}
+use Rattle.cover.specs.Tables.{members, members_below}
 use Rattle.cover.specs.Covers.{gathered, pruned, cover_of}
 use Rattle.cover.specs.Answers.{rising_cover}
 use Rattle.cover.specs.declared.care.CareFunction.{CareFunction}
 use Rattle.cover.specs.declared.cube.Cube.{Cube}
 use Rattle.cover.proofs.Listed.{IsSide, members-on, members-off, below_on}
-use Rattle.cover.proofs.Pruning.{in_cover-append}
 
 -- what is pruned of what is gathered is the cover
 pub cover-is : (target : CareFunction) (on off : Function) (cs ds : List Cube) → IsSide target true on → IsSide target false off
@@ -32,14 +30,3 @@ written cs ks rest blanks s n h e m b =
     let none : drop (length ps - s) (drop s ps) ≡ [] = drop_all (length ps - s) (drop s ps) (omega (arith, length-drop s ps)) in
     let size : length (take (length ps - s) (drop s ps)) ≡ n - s = simp (length-take, length-drop) (omega (arith, m)) in
     ap₂ (λ (xs ys : List Cube). xs ++ ys) front (ap₂ (λ (xs ys : List Cube). xs ++ ys) (b ∙ ap (λ k. replicate k no_cube) size) none ∙ append-nil (replicate (n - s) no_cube))
-
-or-false : (a : Bool) → (a || false) ≡ a
-or-false true = refl
-or-false false = refl
-
--- one cube more
-pub union_more : (cs : List Cube) (i : ℕ) (all own both : Function) → i < length cs → IsSet all (in_cover (take i cs)) → IsSet own (in_cube (get_or cs i no_cube)) → IsSet both (λ y. bit_of all y || bit_of own y)
-    → IsSet both (in_cover (take (i + 1) cs))
-union_more cs i all own both h a o b y l =
-    let c = get_or cs i no_cube in
-    b y l ∙ ap₂ ◌||◌ (a y l) (o y l ∙ sym (or-false (in_cube c y))) ∙ sym (in_cover-append (take i cs) (c ∷ []) y) ∙ ap (λ ds. in_cover ds y) (sym (take_more cs i no_cube h))

@@ -1,42 +1,16 @@
 -- Irredundancy, one cube on.
-use Rattle.std.proofs.Common.{◌≡◌, ℕ, ◌+◌, ◌-◌, ◌<◌, ◌≤◌, Bool, true, false, not, ◌&&◌, ◌||◌, List, [], ◌∷◌, ◌++◌, length, get_or, take, drop, set, Decides, sym, refl, ap, ◌∙◌, subst, ap₂, inl, inr, ⊎_elim, add-zero, arith}
+use Rattle.std.proofs.Common.{◌≡◌, ℕ, ◌+◌, ◌<◌, ◌≤◌, Bool, true, false, not, ◌&&◌, ◌||◌, List, [], ◌∷◌, ◌++◌, length, get_or, take, drop, set, Decides, sym, refl, ap, ◌∙◌, subst, ⊎_elim, add-zero, arith}
 use Rattle.std.specs.List.{ContainsAt as Has}
-use Rattle.std.proofs.lemmas.List.{get_or-set_same, get_or-set_other, get_or-drop, length-set, drop_all, drop_more, drop-drop, drop-set-lt, take_more_set}
-use Rattle.std.proofs.lemmas.Bool.{and_parts, and_from, and_left, and_right, or_left, or_right, or_parts, or_from, not-true, not_from_true, not_from_false, both_ways, cases_eq, cases_Bool, cond-true, cond-false}
+use Rattle.std.proofs.lemmas.List.{get_or-drop, length-set, drop_more, drop-drop, drop-set-lt, take_more_set}
+use Rattle.std.proofs.lemmas.Bool.{and_parts, and_from, and_left, and_right, or_left, or_right, or_parts, or_from, not-true, not_from_true, not_from_false, both_ways, cases_Bool, cond-true, cond-false}
 use Rattle.network.specs.Rows.{bit_of}
 use Rattle.network.specs.declared.row.Function.{Function}
 use Rattle.roll.proofs.Members.{has-none, has_here, has_there, has-cases}
 use Rattle.cover.specs.Cubes.{in_cube, in_cover, no_cube}
-use Rattle.cover.specs.Tables.{IsSet, Meets, members, no_table}
+use Rattle.cover.specs.Tables.{IsSet, Meets, members}
 use Rattle.cover.specs.Covers.{spare, pruned}
 use Rattle.cover.specs.declared.cube.Cube.{Cube}
-use Rattle.cover.proofs.Bits.{and-true}
 use Rattle.cover.proofs.Listed.{members-has, has-member}
-
--- entries from i on are the minterms of the cubes behind them, and `behind` those of the cubes from i on
-pub record Fills (cubes : List Cube) (later : List Function) (behind : Function) (i : ℕ) : Type 0 where
-  pub done : (k : ℕ) → i ≤ k → k < length cubes → IsSet (get_or later k no_table) (in_cover (drop (k + 1) cubes))
-  pub next : IsSet behind (in_cover (drop i cubes))
-
-pub fills-none : (cubes : List Cube) (later : List Function) (behind : Function) → IsSet behind (λ _. false) → Fills cubes later behind (length cubes)
-fills-none cubes later behind e =
-    record { done = λ k l h. absurd (omega arith); next = λ y h. e y h ∙ ap (λ cs. in_cover cs y) (sym (drop_all (length cubes) cubes (omega arith))) }
-
-pub fills-more : (cubes : List Cube) (later : List Function) (behind own both : Function) (i : ℕ) → 0 < i → i ≤ length cubes → length cubes ≤ length later
-    → IsSet own (in_cube (get_or cubes (i - 1) no_cube)) → IsSet both (λ y. bit_of own y || bit_of behind y) → Fills cubes later behind i → Fills cubes (set later (i - 1) behind) both (i - 1)
-fills-more cubes later behind own both i p l m o b f =
-    let e : i - 1 + 1 ≡ i = omega arith in
-    record {
-      done = λ k h n. elim (cases_eq k (i - 1)) [
-        | inl s ↦ let q : i ≡ k + 1 = omega arith in
-            subst (λ t. IsSet t (in_cover (drop (k + 1) cubes))) (sym (ap (λ j. get_or (set later (i - 1) behind) j no_table) s ∙ get_or-set_same later (i - 1) behind no_table (omega arith)))
-            (subst (λ j. IsSet behind (in_cover (drop j cubes))) q f.next)
-        | inr s ↦ subst (λ t. IsSet t (in_cover (drop (k + 1) cubes))) (sym (get_or-set_other later (i - 1) k behind no_table s)) (f.done k (omega arith) n)
-      ];
-      next = λ y h.
-          b y h ∙ ap₂ ◌||◌ (o y h) (f.next y h ∙ ap (λ j. in_cover (drop j cubes) y) (sym e))
-          ∙ ap (λ cs. in_cover cs y) (sym (drop_more cubes (i - 1) no_cube (omega arith)));
-    }
 
 -- an on-minterm in the cube that is in no other
 pub spare-not : (on : List ℕ) (c : Cube) (others : List Cube) (y : ℕ) → Has on y → in_cube c y ≡ true → in_cover others y ≡ false → spare on c others ≡ false
@@ -91,9 +65,6 @@ pub record Prunes (on left : Function) (first cubes : List Cube) (stays i : ℕ)
   pub bare : IsSet left (λ z. bit_of on z && not (in_cover (take stays cubes) z))
   pub long : length cubes ≡ length first
   pub rest : drop i cubes ≡ drop i first
-
-pub prunes-none : (on : Function) (first : List Cube) → Prunes on on first first 0 0
-prunes-none on first = record { few = omega arith; whole = refl; bare = λ y h. sym (and-true (bit_of on y)); long = refl; rest = refl }
 
 at_zero : (xs : List Cube) (i : ℕ) → get_or xs i no_cube ≡ get_or (drop i xs) 0 no_cube
 at_zero xs i = sym (get_or-drop i xs 0 no_cube ∙ ap (λ k. get_or xs k no_cube) (add-zero i))
@@ -156,13 +127,6 @@ prunes-keep on left less₀ first cubes stays i l t s p =
       long = length-set cubes stays c ∙ long;
       rest = drop-set-lt (i + 1) cubes stays c (omega arith) ∙ next-rest first cubes i p.rest;
     }
-
--- all cubes are tried
-pub prunes-all : (on left : Function) (first cubes : List Cube) (stays i : ℕ) → length first ≤ i → Prunes on left first cubes stays i
-    → take stays cubes ≡ pruned (members on) [] first
-prunes-all on left first cubes stays i e p =
-    let n : drop i first ≡ [] = drop_all i first e in
-    sym (ap (pruned (members on) (take stays cubes)) n) ∙ p.whole
 
 pub prunes-at : (on : Function) {left left' : Function} (first : List Cube) {cubes cubes' : List Cube} {stays stays' : ℕ} (i : ℕ) → left ≡ left' → cubes ≡ cubes' → stays ≡ stays'
     → Prunes on left' first cubes' stays' i → Prunes on left first cubes stays i

@@ -1,9 +1,9 @@
-use Rattle.std.proofs.Common.{◌≡◌, sym, ◌∙◌, ap₂}
+use Rattle.std.proofs.Common.{◌≡◌, sym, ◌∙◌}
 use Rattle.std.specs.List.{range_with_len}
 use Rattle.cover.specs.Tables.{members}
 use Rattle.cover.specs.Covers.{touches, expanded}
 use Rattle.cover.proofs.Listed.{meets-touches}
-use Rattle.cover.proofs.Expansion.{expand-gone, expand-kept, expand-all}
+use Rattle.cover.proofs.Expansion.{expand-gone, expand-kept}
 use Rattle.cover.proofs.expand.expand.Goals as goal
 use Rattle.cover.proofs.expand.expand.Goals.{then-not-meets, else-not-meets}
 
@@ -16,9 +16,3 @@ loop-i-preserved c =
       | then-not-meets w ↦ expand-gone off c.loop-i.i c.count-i-end.result c.loop-i.cube c.strike-larger.result c.if-not-meets.cube whole c.loop-i-test.true c.loop-i.invariant c.strike-larger.ensures (sym t ∙ w.if-not-meets.true) w.cube-is
       | else-not-meets w ↦ expand-kept off c.loop-i.i c.count-i-end.result c.loop-i.cube c.strike-larger.result c.if-not-meets.cube whole c.loop-i-test.true c.loop-i.invariant c.strike-larger.ensures (sym t ∙ w.if-not-meets.false) w.cube-is
     ]
-
-pub returns : goal.returns
-returns c =
-    let off = members c.args.off.now in
-    expand-all off c.loop-i.i c.count-i-end.result c.loop-i.cube (expanded off (range_with_len 0 c.count-i-end.result) c.of_minterm-cube.result) c.loop-i-test.false c.loop-i.invariant
-    ∙ ap₂ (λ n d. expanded off (range_with_len 0 n) d) c.count-i-end.ensures c.of_minterm-cube.ensures

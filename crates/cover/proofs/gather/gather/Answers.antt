@@ -1,4 +1,4 @@
-use Rattle.std.proofs.Common.{◌≡◌, ℕ, ◌+◌, ◌^◌, ◌<◌, ◌≤◌, true, not, ◌&&◌, List, length, sym, refl, ap, ◌∙◌, subst, arith, pow_mono, rules}
+use Rattle.std.proofs.Common.{◌≡◌, ℕ, ◌+◌, ◌^◌, ◌<◌, ◌≤◌, true, not, ◌&&◌, List, length, sym, refl, ap, ◌∙◌, subst, arith, pow_mono}
 use base.Fml.{GName}
 use Rattle.std.specs.List.{range_with_len}
 use Rattle.network.specs.Limits.{minterms}
@@ -6,7 +6,7 @@ use Rattle.network.specs.Rows.{bit_of}
 use Rattle.cover.specs.Cubes.{in_cube, start}
 use Rattle.cover.specs.Tables.{members}
 use Rattle.cover.proofs.Strikes.{in-expanded, in_start}
-use Rattle.cover.proofs.Gathering.{Gathers, gathers-none, gathers-skip, gathers-added, gathers-all}
+use Rattle.cover.proofs.Gathering.{Gathers, gathers-none, gathers-skip, gathers-added}
 use Rattle.network.specs.declared.row.Function.{Function}
 use Rattle.cover.specs.declared.cube.Cube.{Cube}
 use Rattle.cover.proofs.gather.gather.Goals as goal
@@ -48,12 +48,3 @@ loop-y-preserved c =
       | else-bit w ↦ subst (λ r. Seen c r.places.now r.count r.places.ghost_name c.if-bit.left) (sym w.roll-is) (subst (Seen c c.loop-y.roll.places.now c.loop-y.roll.count c.loop-y.roll.places.ghost_name) (sym w.left-is)
           (gathers-skip f n off c.args.on c.loop-y.left c.over-roll.result.places.now c.loop-y.roll.places.now c.loop-y.roll.count y few c.loop-y-test.true (sym c.bit.ensures ∙ w.if-bit.false) c.loop-y.invariant.0, c.loop-y.invariant.1))
     ]
-
-pub returns : goal.returns
-returns c =
-    let n = c.minterms-y-end.result in
-    let first : c.over-roll.result.places.now ≡ c.args.list.now = ap (λ r. r.now) c.over-roll.ensures.places in
-    let g = c.loop-y.invariant.0 in
-    let cubes = gathers-all c.args.fanins.count n (members c.args.off.now) c.args.on c.loop-y.left c.over-roll.result.places.now c.loop-y.roll.places.now c.loop-y.roll.count c.loop-y.y c.loop-y-test.false g in
-    let rest = g.rest in
-    record { cubes = search rules; few = omega (arith, g.few, c.minterms-y-end.ensures); rest = search rules }

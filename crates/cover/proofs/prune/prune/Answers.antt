@@ -4,12 +4,9 @@ use Rattle.network.specs.Rows.{bit_of}
 use Rattle.cover.specs.Cubes.{in_cover, no_cube}
 use Rattle.cover.specs.Tables.{IsSet, members, no_table}
 use Rattle.cover.specs.Covers.{spare}
-use Rattle.cover.proofs.Pruning.{prunes-none, prunes-drop, prunes-keep, prunes-all, prunes-at, spare-by-table}
+use Rattle.cover.proofs.Pruning.{prunes-drop, prunes-keep, prunes-at, spare-by-table}
 use Rattle.cover.proofs.prune.prune.Goals as goal
 use Rattle.cover.proofs.prune.prune.Goals.{then-meets, else-meets}
-
-pub loop-i-init : goal.loop-i-init
-loop-i-init c = prunes-none c.args.on c.args.cubes.now
 
 pub loop-i-preserved : goal.loop-i-preserved
 loop-i-preserved c =
@@ -33,9 +30,3 @@ loop-i-preserved c =
       | else-meets w ↦ prunes-at on first (i + 1) w.left-is w.cubes-is w.stays-is
           (prunes-drop on c.loop-i.left first cubes stays i l (spares ∙ ap not w.if-meets.false) c.loop-i.invariant)
     ]
-
-pub returns-clause-cubes : goal.returns-clause-cubes
-returns-clause-cubes c =
-    let first = c.args.cubes.now in
-    let size = length-take-le (length first) c.fill_later.new.later (omega (arith, c.fill_later.auto.later, c.requires)) in
-    prunes-all c.args.on c.loop-i.left first c.loop-i.cubes c.loop-i.stays c.loop-i.i (omega (arith, size, c.loop-i-test.false)) c.loop-i.invariant
