@@ -18,7 +18,7 @@ use Rattle.roll.proofs.Rising.{length-entered}
 use Rattle.cover.specs.Cubes.{in_cube, in_cover, start, cube_below}
 use Rattle.cover.specs.Tables.{IsSet, members_below}
 use Rattle.cover.specs.Covers.{expanded, gathered}
-use Rattle.cover.proofs.Bits.{and-true}
+use Rattle.std.proofs.Math.Bool.{and-true}
 use Rattle.cover.specs.declared.cube.Cube.{Cube}
 
 -- the on-minterms below y are seen, and the first `count` places are their cubes; there are n minterms

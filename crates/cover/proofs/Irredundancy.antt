@@ -3,13 +3,13 @@ use Rattle.std.proofs.Common.{◌≡◌, ℕ, ◌+◌, ◌<◌, Bool, true, fals
 use Rattle.std.specs.List.{ContainsAt as Has, remove}
 use Rattle.std.proofs.lemmas.List.{get_or_append_left, take-append-le, drop-append-le, take_at, drop_all, get_or_at}
 use Rattle.std.proofs.ByRecursion.{has_push_cases}
+use Rattle.std.proofs.lemmas.List.Folds.{list_any-append}
 use Rattle.std.proofs.lemmas.Bool.{and_parts, and_from, and_cases, or_left, or_right, or_cases, or_parts, or_from, not-true, not-false, both_ways}
 use Rattle.roll.specs.Rolls.{under, ascending}
 use Rattle.roll.proofs.Members.{has-none, has_here, has_there, has-cases}
 use Rattle.cover.specs.Cubes.{in_cube, in_cover, cube_below, no_cube}
 use Rattle.cover.specs.Covers.{spare, pruned}
 use Rattle.cover.specs.declared.cube.Cube.{Cube}
-use Rattle.cover.proofs.Pruning.{in_cover-append}
 
 -- an on-minterm of the cube that no other cube holds
 abbrev Own : List ℕ → Cube → List Cube → Type 0
@@ -36,8 +36,8 @@ spare-other (z ∷ on) c others e y h i =
 -- one cube fewer, in the middle, holds no more
 fewer : (xs bs : List Cube) (d : Cube) (y : ℕ) → in_cover (xs ++ d ∷ bs) y ≡ false → in_cover (xs ++ bs) y ≡ false
 fewer xs bs d y h =
-    let p = or_parts (in_cover xs y) (in_cover (d ∷ bs) y) (sym (in_cover-append xs (d ∷ bs) y) ∙ h) in
-    in_cover-append xs bs y ∙ or_from (in_cover xs y) (in_cover bs y) p.0 (or_parts (in_cube d y) (in_cover bs y) p.1).1
+    let p = or_parts (in_cover xs y) (in_cover (d ∷ bs) y) (sym (list_any-append (λ k. in_cube k y) xs (d ∷ bs)) ∙ h) in
+    list_any-append (λ k. in_cube k y) xs bs ∙ or_from (in_cover xs y) (in_cover bs y) p.0 (or_parts (in_cube d y) (in_cover bs y) p.1).1
 
 -- each cube that stays has such a minterm, against all cubes still there
 abbrev Kept : List ℕ → List Cube → List Cube → Type 0
@@ -113,9 +113,9 @@ module _ (on : List ℕ) where
   pruned-holds ks [] y h e = ap (λ xs. in_cover xs y) (sym (append-nil ks)) ∙ e
   pruned-holds ks (d ∷ cs) y h e =
       let in-other : spare on d (ks ++ cs) ≡ true → in_cover (ks ++ cs) y ≡ true =
-      λ s. ⊎_elim (λ k. in_cover-append ks cs y ∙ or_left (in_cover ks y) (in_cover cs y) k)
-      (λ k. ⊎_elim (spare-other on d (ks ++ cs) s y h) (λ m. in_cover-append ks cs y ∙ or_right (in_cover ks y) (in_cover cs y) m) (or_cases (in_cube d y) (in_cover cs y) k))
-      (or_cases (in_cover ks y) (in_cover (d ∷ cs) y) (sym (in_cover-append ks (d ∷ cs) y) ∙ e)) in
+      λ s. ⊎_elim (λ k. list_any-append (λ k. in_cube k y) ks cs ∙ or_left (in_cover ks y) (in_cover cs y) k)
+      (λ k. ⊎_elim (spare-other on d (ks ++ cs) s y h) (λ m. list_any-append (λ k. in_cube k y) ks cs ∙ or_right (in_cover ks y) (in_cover cs y) m) (or_cases (in_cube d y) (in_cover cs y) k))
+      (or_cases (in_cover ks y) (in_cover (d ∷ cs) y) (sym (list_any-append (λ k. in_cube k y) ks (d ∷ cs)) ∙ e)) in
       let P : Bool → Type 0 = λ b. spare on d (ks ++ cs) ≡ b → in_cover (cond b (pruned on ks cs) (pruned on (ks ++ d ∷ []) cs)) y ≡ true in
       let p : P (spare on d (ks ++ cs)) = elim (spare on d (ks ++ cs)) as P [
         | true ↦ (λ s. pruned-holds ks cs y h (in-other s))

@@ -11,7 +11,7 @@ use Rattle.cover.specs.Covers.{touches, expanded}
 use Rattle.cover.specs.Laws.{IsCube}
 use Rattle.cover.specs.declared.cube.Cube.{Cube}
 use Rattle.network.proofs.Bits.{computed, bit-and}
-use Rattle.cover.proofs.Bits.{and_assoc}
+use Rattle.std.proofs.lemmas.Nat.{and_assoc}
 use Rattle.cover.proofs.Strikes.{in-part}
 
 -- a cube with fewer literals holds the minterms that the cube holds
@@ -21,7 +21,7 @@ touches-part (y ∷ off) c k h =
     ⊎_elim (λ e. or_left (in_cube (part c k) y) (touches off (part c k)) (in-part c k y e)) (λ e. or_right (in_cube (part c k) y) (touches off (part c k)) (touches-part off c k e)) (or_cases (in_cube c y) (touches off c) h)
 
 swap : (m j k : ℕ) → bit_and (bit_and m j) k ≡ bit_and (bit_and m k) j
-swap m j k = and_assoc m j k ∙ ap (bit_and m) (and_comm j k) ∙ sym (and_assoc m k j)
+swap m j k = and_assoc k m j ∙ ap (bit_and m) (and_comm j k) ∙ sym (and_assoc j m k)
 
 abbrev cube_of : ℕ → ℕ → Cube
 cube_of m v = record { mask = m; values = v }
@@ -31,7 +31,7 @@ part-comm c j k = ap₂ cube_of (swap c.mask j k) (swap c.values j k)
 
 part-twice : (c : Cube) (k : ℕ) → part (part c k) k ≡ part c k
 part-twice c k =
-    let e : (m : ℕ) → bit_and (bit_and m k) k ≡ bit_and m k = λ m. and_assoc m k k ∙ ap (bit_and m) (and_self k) in
+    let e : (m : ℕ) → bit_and (bit_and m k) k ≡ bit_and m k = λ m. and_assoc k m k ∙ ap (bit_and m) (and_self k) in
     ap₂ cube_of (e c.mask) (e c.values)
 
 -- the literal on fanin i cannot go, or is gone
@@ -90,7 +90,7 @@ part-cube : (f : ℕ) (c : Cube) (k : ℕ) → IsCube f c → IsCube f (part c k
 part-cube f c k g =
     record {
       small = lt_of_le_of_lt (and_le_l c.mask k) g.small;
-      inside = swap c.values k (bit_and c.mask k) ∙ ap (λ (n : ℕ). bit_and n k) (sym (and_assoc c.values c.mask k)) ∙ and_assoc (bit_and c.values c.mask) k k ∙ ap₂ bit_and g.inside (and_self k);
+      inside = swap c.values k (bit_and c.mask k) ∙ ap (λ (n : ℕ). bit_and n k) (sym (and_assoc k c.values c.mask)) ∙ and_assoc k (bit_and c.values c.mask) k ∙ ap₂ bit_and g.inside (and_self k);
     }
 
 pub expanded-cube : (f : ℕ) (off order : List ℕ) (c : Cube) → IsCube f c → IsCube f (expanded off order c)

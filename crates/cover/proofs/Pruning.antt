@@ -2,6 +2,7 @@
 use Rattle.std.proofs.Common.{◌≡◌, ℕ, ◌+◌, ◌<◌, ◌≤◌, Bool, true, false, not, ◌&&◌, ◌||◌, List, [], ◌∷◌, ◌++◌, length, get_or, take, drop, set, Decides, sym, refl, ap, ◌∙◌, subst, ⊎_elim, add-zero, arith}
 use Rattle.std.specs.List.{ContainsAt as Has}
 use Rattle.std.proofs.lemmas.List.{get_or-drop, length-set, drop_more, drop-drop, drop-set-lt, take_more_set}
+use Rattle.std.proofs.lemmas.List.Folds.{list_any-append}
 use Rattle.std.proofs.lemmas.Bool.{and_parts, and_from, and_left, and_right, or_left, or_right, or_parts, or_from, not-true, not_from_true, not_from_false, both_ways, cases_Bool, cond-true, cond-false}
 use Rattle.network.specs.Rows.{bit_of}
 use Rattle.network.specs.declared.row.Function.{Function}
@@ -29,12 +30,6 @@ spare-so (z ∷ on) c others f =
     (⊎_elim (λ i. or_right (not (in_cube c z)) (in_cover others z) (f z (has_here z z on refl) i)) (λ i. or_left (not (in_cube c z)) (in_cover others z) (not_from_false (in_cube c z) i)) (cases_Bool (in_cube c z)))
     (spare-so on c others (λ y k i. f y (has_there z y on k) i))
 
-pub in_cover-append : (ks cs : List Cube) (y : ℕ) → in_cover (ks ++ cs) y ≡ (in_cover ks y || in_cover cs y)
-in_cover-append [] cs y = refl
-in_cover-append (k ∷ ks) cs y =
-    let P : Bool → Type 0 = λ b. (b || in_cover (ks ++ cs) y) ≡ ((b || in_cover ks y) || in_cover cs y) in
-    elim (in_cube k y) as P [ true ↦ refl | false ↦ in_cover-append ks cs y ]
-
 -- whether a cube can go, by the minterms that are on, in no cube that stays and in none behind it
 pub spare-by-table : (on left later lone : Function) (c : Cube) (ks cs : List Cube) (r : Bool) → IsSet left (λ z. bit_of on z && not (in_cover ks z)) → IsSet later (in_cover cs)
     → IsSet lone (λ z. bit_of left z && not (bit_of later z)) → Decides r (Meets lone c) → spare (members on) c (ks ++ cs) ≡ not r
@@ -45,14 +40,14 @@ spare-by-table on left later lone c ks cs true l s e d =
     let t = and_parts (bit_of left y) (not (bit_of later y)) (sym (e y h) ∙ w.2) in
     let u = and_parts (bit_of on y) (not (in_cover ks y)) (sym (l y h) ∙ t.0) in
     let behind : in_cover cs y ≡ false = sym (s y h) ∙ not-true (bit_of later y) t.1 in
-    spare-not (members on) c (ks ++ cs) y (has-member on y h u.0) w.3 (in_cover-append ks cs y ∙ or_from (in_cover ks y) (in_cover cs y) (not-true (in_cover ks y) u.1) behind)
+    spare-not (members on) c (ks ++ cs) y (has-member on y h u.0) w.3 (list_any-append (λ k. in_cube k y) ks cs ∙ or_from (in_cover ks y) (in_cover cs y) (not-true (in_cover ks y) u.1) behind)
 spare-by-table on left later lone c ks cs false l s e d =
     spare-so (members on) c (ks ++ cs) (λ y k i.
     let m = members-has on y k in
     let h = m.0 in
     ⊎_elim (λ t. t)
     (λ t.
-    let p = or_parts (in_cover ks y) (in_cover cs y) (sym (in_cover-append ks cs y) ∙ t) in
+    let p = or_parts (in_cover ks y) (in_cover cs y) (sym (list_any-append (λ k. in_cube k y) ks cs) ∙ t) in
     let bare : bit_of left y ≡ true = l y h ∙ and_from (bit_of on y) (not (in_cover ks y)) m.1 (not_from_false (in_cover ks y) p.0) in
     let alone : bit_of lone y ≡ true = e y h ∙ and_from (bit_of left y) (not (bit_of later y)) bare (not_from_false (bit_of later y) (s y h ∙ p.1)) in
     absurd (both_ways false refl (d.1 (y, h, alone, i))))
@@ -123,7 +118,7 @@ prunes-keep on left less₀ first cubes stays i l t s p =
       few = omega arith;
       whole = ap (λ k. pruned (members on) k cs) front ∙ sym step ∙ sym (ap (pruned (members on) ks) (next-cube first cubes i l p.rest)) ∙ p.whole;
       bare = λ z h. s z h ∙ ap (λ b. b && not (in_cube c z)) (p.bare z h) ∙ less (bit_of on z) (in_cover ks z) (in_cube c z)
-          ∙ ap (λ b. bit_of on z && not b) (sym (in_cover-append ks (c ∷ []) z) ∙ ap (λ ds. in_cover ds z) (sym front));
+          ∙ ap (λ b. bit_of on z && not b) (sym (list_any-append (λ k. in_cube k z) ks (c ∷ [])) ∙ ap (λ ds. in_cover ds z) (sym front));
       long = length-set cubes stays c ∙ long;
       rest = drop-set-lt (i + 1) cubes stays c (omega arith) ∙ next-rest first cubes i p.rest;
     }

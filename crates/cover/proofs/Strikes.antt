@@ -5,13 +5,13 @@ use Rattle.std.proofs.lemmas.Bool.{eq-eqb, eqb-true}
 use Rattle.cover.specs.Cubes.{in_cube, part, struck, start}
 use Rattle.cover.specs.Covers.{touches, expanded}
 use Rattle.cover.specs.declared.cube.Cube.{Cube}
-use Rattle.cover.proofs.Bits.{and_assoc}
+use Rattle.std.proofs.lemmas.Nat.{and_assoc}
 
 -- fewer literals hold more
 pub in-part : (c : Cube) (k y : ℕ) → in_cube c y ≡ true → in_cube (part c k) y ≡ true
 in-part c k y h =
     eq-eqb (bit_and y (bit_and c.mask k)) (bit_and c.values k)
-    (sym (and_assoc y c.mask k) ∙ ap (λ (v : ℕ). bit_and v k) (eqb-true (bit_and y c.mask) c.values h))
+    (sym (and_assoc k y c.mask) ∙ ap (λ (v : ℕ). bit_and v k) (eqb-true (bit_and y c.mask) c.values h))
 
 pub in-expanded : (off order : List ℕ) (c : Cube) (y : ℕ) → in_cube c y ≡ true → in_cube (expanded off order c) y ≡ true
 in-expanded off [] c y h = h
