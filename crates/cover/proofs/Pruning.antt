@@ -1,17 +1,40 @@
 -- Irredundancy, one cube on.
-use Rattle.std.proofs.Common.{◌≡◌, ℕ, ◌+◌, ◌<◌, ◌≤◌, Bool, true, false, not, ◌&&◌, ◌||◌, List, [], ◌∷◌, ◌++◌, length, get_or, take, drop, set, Decides, sym, refl, ap, ◌∙◌, subst, ⊎_elim, add-zero, arith}
-use Rattle.std.specs.List.{ContainsAt as Has}
-use Rattle.std.proofs.lemmas.List.{get_or-drop, length-set, drop_more, drop-drop, drop-set-lt, take_more_set}
+use Rattle.std.proofs.Common.{◌≡◌, ℕ, ◌+◌, ◌<◌, ◌≤◌, Bool, true, false, not, ◌&&◌, ◌||◌, List, [], ◌∷◌, ◌++◌, length, get_or, take, drop, set, Decides, sym, refl, ap, ◌∙◌, subst, ap₂, inl, inr, ⊎_elim, add-zero, append_assoc, arith}
+use Rattle.std.specs.List.{push, ContainsAt as Has}
+use Rattle.std.proofs.lemmas.List.{length_push, drop_at, get_or-set_same, get_or-set_other, get_or-drop, length-set, drop_more, drop-drop, drop-set-lt, take_more_set}
 use Rattle.std.proofs.lemmas.List.Folds.{list_any-append}
-use Rattle.std.proofs.lemmas.Bool.{and_parts, and_from, and_left, and_right, or_left, or_right, or_parts, or_from, not-true, not_from_true, not_from_false, both_ways, cases_Bool, cond-true, cond-false}
+use Rattle.std.proofs.lemmas.Bool.{and_parts, and_from, and_left, and_right, or_left, or_right, or_parts, or_from, not-true, not_from_true, not_from_false, both_ways, cases_eq, cases_Bool, cond-true, cond-false}
 use Rattle.network.specs.Rows.{bit_of}
 use Rattle.network.specs.declared.row.Function.{Function}
 use Rattle.roll.proofs.Members.{has-none, has_here, has_there, has-cases}
 use Rattle.cover.specs.Cubes.{in_cube, in_cover, no_cube}
-use Rattle.cover.specs.Tables.{IsSet, Meets, members}
+use Rattle.cover.specs.Tables.{IsSet, Meets, members, no_table}
 use Rattle.cover.specs.Covers.{spare, pruned}
 use Rattle.cover.specs.declared.cube.Cube.{Cube}
 use Rattle.cover.proofs.Listed.{members-has, has-member}
+
+-- entries from the length of `rest` on are the minterms of the cubes behind them, and `behind` those of all of these
+pub record Fills (cubes : List Cube) (later : List Function) (behind : Function) (rest : List Cube) : Type 0 where
+  pub whole : cubes ≡ rest ++ drop (length rest) cubes
+  pub done : (k : ℕ) → length rest ≤ k → k < length cubes → IsSet (get_or later k no_table) (in_cover (drop (k + 1) cubes))
+  pub next : IsSet behind (in_cover (drop (length rest) cubes))
+
+-- one cube more from the end
+pub fills-more : (cubes : List Cube) (later : List Function) (behind own both : Function) (rest less : List Cube) (c : Cube) (i : ℕ) → rest ≡ push less c → i ≡ length less → length cubes ≤ length later
+    → IsSet own (in_cube c) → IsSet both (λ y. bit_of own y || bit_of behind y) → Fills cubes later behind rest → Fills cubes (set later i behind) both less
+fills-more cubes later behind own both rest less c i e n m o b f =
+    let size : length rest ≡ length less + 1 = ap length e ∙ length_push less c in
+    let whole : cubes ≡ less ++ c ∷ drop (length less + 1) cubes = f.whole ∙ ap₂ (λ (xs : List Cube) k. xs ++ drop k cubes) e size ∙ append_assoc less (c ∷ []) (drop (length less + 1) cubes) in
+    let behind-less : drop (length less) cubes ≡ c ∷ drop (length less + 1) cubes = ap (drop (length less)) whole ∙ drop_at less (c ∷ drop (length less + 1) cubes) (length less) refl in
+    record {
+      whole = whole ∙ ap (λ xs. less ++ xs) (sym behind-less);
+      done = λ k h l. elim (cases_eq k i) [
+        | inl s ↦ subst (λ t. IsSet t (in_cover (drop (k + 1) cubes))) (sym (ap (λ j. get_or (set later i behind) j no_table) s ∙ get_or-set_same later i behind no_table (omega arith)))
+            (let j : length rest ≡ k + 1 = omega (arith, size) in subst (λ j. IsSet behind (in_cover (drop j cubes))) j f.next)
+        | inr s ↦ subst (λ t. IsSet t (in_cover (drop (k + 1) cubes))) (sym (get_or-set_other later i k behind no_table s)) (f.done k (omega (arith, size)) l)
+      ];
+      next = λ y h. b y h ∙ ap₂ ◌||◌ (o y h) (f.next y h ∙ ap (λ j. in_cover (drop j cubes) y) size) ∙ ap (λ cs. in_cover cs y) (sym behind-less);
+    }
 
 -- an on-minterm in the cube that is in no other
 pub spare-not : (on : List ℕ) (c : Cube) (others : List Cube) (y : ℕ) → Has on y → in_cube c y ≡ true → in_cover others y ≡ false → spare on c others ≡ false

@@ -17,9 +17,9 @@ fn fill_later(cubes: &[Cube], later: &mut [Function])
     ensures { (i : ℕ) → i < length cubes.now → IsSet (slice_index_or later.new i no_table) (in_cover (drop (i + 1) cubes.now)) }
 {
     let mut behind = none();
-    for i in (0..cubes.len()).rev() {
+    for (i, cube) in cubes.iter().enumerate().rev() {
         later[i] = behind;
-        behind = union(table(cubes[i]), behind);
+        behind = union(table(*cube), behind);
     }
 }
 
