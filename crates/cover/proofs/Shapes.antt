@@ -116,8 +116,7 @@ meets-shared s c r long e =
     let numbered = enumerate_from 0 s.bytes in
     let size : length numbered ≡ function_bytes = length-enumerate_from 0 s.bytes ∙ long in
     let entry : (j : ℕ) (d : ℕ × ℕ) → j < function_bytes → get_or numbered j d ≡ (j, get_or s.bytes j 0) =
-    λ j d h. get_or-enumerate_from 0 s.bytes j d (omega (arith, long)) ∙ ap₂ (λ i b. (i, b)) (zero-add j) (get_or_default s.bytes j d.1 0 (omega (arith, long))) in
-    (
+    λ j d h. get_or-enumerate_from 0 s.bytes j d (omega (arith, long)) ∙ ap₂ (λ i b. (i, b)) (zero-add j) (get_or_default s.bytes j d.1 0 (omega (arith, long))) in (
       λ t.
           let w = Any-from_list_any (shared c) numbered (sym e ∙ t) in
           let j = w.0 in

@@ -35,7 +35,7 @@ impl CareFunction {
 }
 
 /// The minterms of a node with so many fanins: the bits from there on are 0.
-pub fn domain(fanins: Fanins) -> Function
+pub(crate) fn domain(fanins: Fanins) -> Function
     ensures { IsSet result (λ y. nat_lt y (2 ^ fanins.count)) }
 {
     table(Cube {

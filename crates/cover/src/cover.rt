@@ -23,6 +23,7 @@ impl CoverError {
     pub fn number(self) -> u8
         ensures { result ≡ number_of self }
     {
+        // The causes of all crates are numbered in one row, so the number is written out.
         match self {
             CoverError::Short => 17,
         }

@@ -4,6 +4,7 @@ ghost use Rattle.cover.specs.Cubes.{struck, start, cube_below};
 ghost use Rattle.std.proofs.Common.{rules};
 
 use crate::fanins::Fanins;
+use network::row::Minterm;
 use roll::order::Ranked;
 
 /// Bit i of the mask is a literal on fanin i, and bit i of the values says which. A minterm is in the
@@ -31,12 +32,12 @@ impl Ranked for Cube {
 
 impl Cube {
     /// The cube of all literals: minterm y alone.
-    pub(crate) fn of_minterm(fanins: Fanins, y: u16) -> Cube
-        ensures { result ≡ start fanins.count y }
+    pub(crate) fn of_minterm(fanins: Fanins, y: Minterm) -> Cube
+        ensures { result ≡ start fanins.count y.0 }
     {
         Cube {
             mask: fanins.minterms() - 1,
-            values: y,
+            values: y.0,
         }
     }
 

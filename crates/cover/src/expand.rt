@@ -8,12 +8,12 @@ ghost use Rattle.cover.specs.Covers.{expanded};
 use crate::cube::Cube;
 use crate::fanins::Fanins;
 use crate::shape::meets;
-use network::row::Function;
+use network::row::{Function, Minterm};
 
 /// The cube of minterm y, expanded: fanins are tried from 0 upward, and a literal goes if the larger
 /// cube holds no off-minterm.
-pub fn expand(fanins: Fanins, off: &Function, y: u16) -> Cube
-    ensures { result ≡ expanded (members off.now) (range_with_len 0 fanins.count) (start fanins.count y) }
+pub fn expand(fanins: Fanins, off: &Function, y: Minterm) -> Cube
+    ensures { result ≡ expanded (members off.now) (range_with_len 0 fanins.count) (start fanins.count y.0) }
 {
     let mut cube = Cube::of_minterm(fanins, y);
     for i in 0..fanins.count() as u16 {

@@ -14,6 +14,7 @@ pub struct Fanins {
 
 impl Fanins {
     /// The number, if a node may have so many.
+    // There is one way to fail, so an `Option` says all that an error would.
     pub fn new(count: u8) -> Option<Fanins>
         ensures { MatchOption result (max_fanins < count) (λ f. f.count ≡ count) }
     {
@@ -25,6 +26,7 @@ impl Fanins {
     }
 
     /// How many a node has.
+    // A node is more than its number of fanins, so this is no `From`.
     pub fn of_node(node: &Node) -> Fanins
         ensures { result.count ≡ node.now.row.count }
     {

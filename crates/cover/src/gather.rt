@@ -23,8 +23,9 @@ pub fn gather(fanins: Fanins, on: Function, off: &Function, list: &mut [Cube]) -
     let mut roll = Roll::over(list);
     let mut left = on;
     for y in 0..fanins.minterms() {
-        if left.bit(Minterm(y)) {
-            let cube = expand(fanins, off, y);
+        let minterm = Minterm(y);
+        if left.bit(minterm) {
+            let cube = expand(fanins, off, minterm);
             left = without(left, table(cube));
             let _ = roll.add(cube);
         }

@@ -76,5 +76,8 @@ pub fn meets(set: &Function, cube: Cube) -> bool
     ensures { Decides result (Meets set.now cube) }
 {
     let low = low_byte(cube);
-    set.bytes.iter().enumerate().any(|(k, b)| *b & byte(cube, low, k) != 0)
+    set.bytes
+        .iter()
+        .enumerate()
+        .any(|(k, b)| *b & byte(cube, low, k) != 0)
 }

@@ -1,4 +1,4 @@
-use Rattle.std.proofs.Common.{sym, ◌∙◌, arith, rules}
+use Rattle.std.proofs.Common.{◌∙◌, arith}
 use Rattle.cover.proofs.Pruning.{fills-more}
 use Rattle.cover.proofs.prune.fill_later.Goals as goal
 
