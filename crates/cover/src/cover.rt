@@ -49,8 +49,7 @@ fn write(target: &CareFunction, places: &mut [Cube]) -> (usize, usize)
     let on = target.on();
     let gathered = gather(target.fanins, on, &target.off(), places);
     let stays = prune(on, &mut places[..gathered]);
-    let cleared = &mut places[stays..];
-    cleared.fill(Cube { mask: 0, values: 0 });
+    places[stays..].fill(Cube { mask: 0, values: 0 });
     (stays, count_literals(&places[..stays]))
 }
 
