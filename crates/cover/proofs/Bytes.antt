@@ -1,19 +1,9 @@
 -- Sets of minterms, byte by byte.
-use Rattle.std.proofs.Common.{◌≡◌, ℕ, zero, suc, ◌/◌, ◌%◌, ◌<◌, Bool, false, get_or, replicate, refl, ap, ◌∙◌, mod-lt, arith, lit<}
+use Rattle.std.proofs.Common.{◌≡◌, ℕ, ◌/◌, ◌%◌, ◌<◌, Bool, get_or, ap, ◌∙◌, mod-lt, arith, lit<}
 use Rattle.network.specs.Limits.{function_bytes}
 use Rattle.network.specs.Rows.{bit_at, bit_of}
 use Rattle.network.specs.declared.row.Function.{Function}
-use Rattle.network.proofs.Bits.{bit-of-zero}
 use Rattle.cover.specs.Tables.{IsSet}
-
-zeros : (n k : ℕ) → ◌≡◌ {A = ℕ} (get_or (replicate n 0) k 0) 0
-zeros zero k = refl
-zeros (suc n) zero = refl
-zeros (suc n) (suc k) = zeros n k
-
-pub none-set : IsSet (record { bytes = replicate function_bytes 0 }) (λ _. false)
-unfolding bit_of
-none-set y h = ap (λ n. bit_at n (y % 8)) (zeros function_bytes (y / 8)) ∙ bit-of-zero (y % 8)
 
 -- the bits of a table of which each byte is made from those of two
 pub combined-set : (op : ℕ → ℕ → ℕ) (bit : Bool → Bool → Bool) (a b r : Function)

@@ -16,6 +16,7 @@ pub struct Cube {
 }
 
 /// By mask, then by values.
+// A roll needs that of two unequal cubes one is below, which an `Ord` does not say.
 impl Ranked for Cube {
     ghost below = { cube_below };
 

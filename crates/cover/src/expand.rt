@@ -16,6 +16,7 @@ pub fn expand(fanins: Fanins, off: &Function, y: Minterm) -> Cube
     ensures { result ≡ expanded (members off.now) (range_with_len 0 fanins.count) (start fanins.count y.0) }
 {
     let mut cube = Cube::of_minterm(fanins, y);
+    // A fanin is its number here, and no list holds them.
     for i in 0..fanins.count() as u16 {
         let larger = cube.strike(i);
         if !meets(off, larger) {

@@ -22,6 +22,7 @@ pub fn gather(fanins: Fanins, on: Function, off: &Function, list: &mut [Cube]) -
 {
     let mut roll = Roll::over(list);
     let mut left = on;
+    // A minterm is a number, and no list holds them.
     for y in 0..fanins.minterms() {
         let minterm = Minterm(y);
         if left.bit(minterm) {

@@ -19,6 +19,7 @@ const AXIS_1: u8 = 0xcc;
 const AXIS_2: u8 = 0xf0;
 
 /// Bit i of a number.
+#[tactic(auto, unfolding(network::specs::Rows::bit_at))]
 fn bit(n: u16, i: u16) -> bool
     requires { i < 16 }
     ensures { result ≡ bit_at n i }
@@ -40,6 +41,7 @@ fn agreeing(literal: bool, value: bool, axis: u8) -> u8
 }
 
 /// Of the eight minterms of a byte, those that agree with the cube on the first three fanins.
+#[tactic(auto, unfolding(crate::specs::Bytes::low_byte))]
 fn low_byte(cube: Cube) -> u8
     ensures { result ≡ low_byte cube.mask cube.values }
 {
@@ -50,6 +52,7 @@ fn low_byte(cube: Cube) -> u8
 }
 
 /// Byte k of the cube's minterms: the low ones, if k agrees with the cube on the other fanins.
+#[tactic(auto, unfolding(crate::specs::Bytes::byte_of))]
 fn byte(cube: Cube, low: u8, k: usize) -> u8
     requires { low ≡ low_byte cube.mask cube.values }
     ensures { result ≡ byte_of cube k }
