@@ -1,5 +1,5 @@
 -- What a roll of leaves lists.
-use Rattle.std.proofs.Common.{◌≡◌, ℕ, suc, ◌+◌, ◌<◌, ◌≤◌, Bool, true, false, not, ◌&&◌, ◌||◌, eqb, List, [], ◌∷◌, map, length, get_or, take, sym, refl, ap, ◌∙◌, inl, inr, ⊎_elim, arith}
+use Rattle.std.proofs.Common.{◌≡◌, ℕ, suc, ◌+◌, ◌<◌, ◌≤◌, Bool, true, false, not, ◌&&◌, ◌||◌, eqb, List, [], ◌∷◌, map, length, get_or, take, Ok, Err, IsErrAnd, MatchResult, Result, sym, refl, ap, ◌∙◌, inl, inr, ◌⊎◌, ⊎_elim, arith}
 use mathlib.Core.Path.{subst⁻¹}
 use Rattle.std.specs.List.{ContainsAt as Has}
 use Rattle.std.proofs.lemmas.List.{get_or_default, length-take-le, length-map, get_or-map}
@@ -19,13 +19,16 @@ use Rattle.context.proofs.Ranks.{chosen-only, chosen-length}
 use Rattle.context.proofs.Levels.{fanin-find}
 use Rattle.roll.specs.Rolls.{entered, ascending, IsRoll}
 use Rattle.roll.specs.Signals.{signal_below}
-use Rattle.roll.specs.Adding.{Adds}
+use Rattle.roll.specs.Adding.{Adds, grown}
 use Rattle.roll.specs.declared.added.Added.{Added}
 use Rattle.roll.specs.declared.added.Added.TheVariants.{Entered, Present, Full}
 use Rattle.roll.proofs.Adds.{entries-after, adds-length}
 use Rattle.roll.proofs.Rising.{has-entered, entered-has, rising-get_or}
 use Rattle.window.specs.Limits.{max_leaves}
-use Rattle.window.specs.Entries.{listed, LeafRoll, Overfull, Enters, leaf_signals}
+use Rattle.window.specs.declared.refusal.ContextError.{ContextError}
+use Rattle.window.specs.declared.refusal.ContextError.TheVariants.{NoNode, Level, Leaves, NoMemory}
+use Rattle.window.specs.Lists.{listed}
+use Rattle.window.specs.Entries.{LeafRoll, Overfull, Enters, NoLeaves, leaf_signals}
 
 pub same_truth : (a b : Bool) → (a ≡ true → b ≡ true) → (b ≡ true → a ≡ true) → a ≡ b
 same_truth true b f g = sym (f refl)
@@ -79,12 +82,12 @@ module _ (m : ℕ → Bool) (x : Signal) (out : m x.0 ≡ false) where
       (λ h. (and_parts (not (m s)) (eqb x.0 s) h).1)
 
   module _ (n n' : ℕ) (p q : List Signal) (o : LeafRoll n p) where
-    pub enters-entered : Adds signal_below x n p Entered q → n' ≡ n + 1 → Enters (λ s. not (m s) && eqb x.0 s) (take n p) true (take n' q)
+    pub enters-entered : Adds signal_below x n p Entered q → n' ≡ n + 1 → Enters (λ s. not (m s) && eqb x.0 s) (take n p) (Ok tt) (take n' q)
     enters-entered a e s =
         ap (λ (xs : List Signal). listed xs s) (ap (λ k. take k q) e ∙ entries-after signal_below x n p q a) ∙ listed-entered x (take n p) s
         ∙ ap (λ b. listed (take n p) s || b) (alone s)
 
-    pub enters-present : Adds signal_below x n p Present q → n' ≡ n + 0 → Enters (λ s. not (m s) && eqb x.0 s) (take n p) true (take n' q)
+    pub enters-present : Adds signal_below x n p Present q → n' ≡ n + 0 → Enters (λ s. not (m s) && eqb x.0 s) (take n p) (Ok tt) (take n' q)
     enters-present a e s =
         let z : n' ≡ n = omega arith in
         ap (λ (xs : List Signal). listed xs s) (ap (λ k. take k q) z ∙ ap (take n) a.1)
@@ -94,7 +97,7 @@ module _ (m : ℕ → Bool) (x : Signal) (out : m x.0 ≡ false) where
         (λ g. let k : x.0 ≡ s = eqb-true x.0 s (and_parts (not (m s)) (eqb x.0 s) g).1 in ap (listed (take n p)) (sym k) ∙ has_listed (take n p) x a.0)
         (or_cases (listed (take n p) s) (not (m s) && eqb x.0 s) h))
 
-    pub enters-full : Adds signal_below x n p Full q → n' ≡ n + 0 → Enters (λ s. not (m s) && eqb x.0 s) (take n p) false (take n' q)
+    pub enters-full : Adds signal_below x n p Full q → n' ≡ n + 0 → Enters (λ s. not (m s) && eqb x.0 s) (take n p) (Err Leaves) (take n' q)
     enters-full a e =
         let z : n' ≡ n = omega arith in
         let b = o.roll.fits in
@@ -107,6 +110,11 @@ module _ (m : ℕ → Bool) (x : Signal) (out : m x.0 ≡ false) where
           missing = (x.0, here, listed-not (take n p) x a.0);
         })
 
+    pub enters-added : (r : Added) → (r ≡ Entered) ⊎ (r ≡ Present) → Adds signal_below x n p r q → n' ≡ n + grown r → Enters (λ s. not (m s) && eqb x.0 s) (take n p) (Ok tt) (take n' q)
+    enters-added Entered _ a e = enters-entered a e
+    enters-added Present _ a e = enters-present a e
+    enters-added Full h a e = ⊎_elim (λ (k : Full ≡ Entered). absurd cc) (λ (k : Full ≡ Present). absurd cc) h
+
 pub rolled : (x : Signal) (n n' : ℕ) (p q : List Signal) (r : Added) → LeafRoll n p → Adds signal_below x n p r q → IsRoll signal_below n' q → LeafRoll n' q
 rolled x n n' p q r o a i = record { roll = i; room = adds-length signal_below x n p q r a ∙ o.room }
 
@@ -118,6 +126,19 @@ overfull-more X Y before mid after h g o = record {
   within = λ s k. ⊎_elim (λ a. h s a) (λ a. or_right (listed before s) (Y s) (g s a)) (or_cases (listed mid s) (X s) (o.within s k));
   missing = let w = o.missing in (w.0, g w.0 w.1, w.2);
 }
+
+-- so it is where the smaller set finds no room
+pub full-more : (X Y : ℕ → Bool) (before mid after : List Signal) → ((s : ℕ) → listed mid s ≡ true → (listed before s || Y s) ≡ true) → ((s : ℕ) → X s ≡ true → Y s ≡ true) →
+    (e : ContextError) → Enters X mid (Err e) after → Enters Y before (Err e) after
+full-more X Y before mid after h g NoNode v = v
+full-more X Y before mid after h g Level v = v
+full-more X Y before mid after h g Leaves v = overfull-more X Y before mid after h g v
+full-more X Y before mid after h g NoMemory v = v
+
+-- an error that is handed on
+pub handed-on : (Y : ℕ → Bool) (before after : List Signal) (e : ContextError) (r : Result Unit ContextError) → Enters Y before (Err e) after → IsErrAnd r (λ e'. e' ≡ e) → Enters Y before r after
+handed-on Y before after e (Ok u) v h = absurd h
+handed-on Y before after e (Err e') v h = subst⁻¹ (λ k. Enters Y before (Err k) after) h v
 
 pub numbers : List Signal → List ℕ
 numbers xs = map (λ s. s.0) xs
@@ -198,3 +219,15 @@ module _ (net : Net) (m : ℕ → Bool) (low : Lowers net) where
       count-within (size net) more (is_leaf net m) (λ a _ h. ⊎_elim (λ g. leaf a g) (λ g. ap (is_leaf net m) (sym (eqb-true z a g)) ∙ v.missing.1) (or_cases (listed xs a) (eqb z a) h)) in
       let f = v.full in
       omega (arith, entries-count (size net) xs (listed xs) o.roll.rising (λ _. refl) (λ s h. leaf-small s (leaf s h)), chosen-length (size net) (is_leaf net m))
+
+  -- the leaves do not fit
+  pub leaves-refused : (n : ℕ) (p : List Signal) → LeafRoll n p → (e : ContextError) → Enters (is_leaf net m) [] (Err e) (take n p) → NoLeaves net m e
+  leaves-refused n p o NoNode v = v
+  leaves-refused n p o Level v = v
+  leaves-refused n p o Leaves v = leaves-many n p o v
+  leaves-refused n p o NoMemory v = absurd v
+
+-- why there is no list of the leaves is handed on
+pub refused-on : {A : Type 0} (net : Net) (m : ℕ → Bool) (P : A → Type 0) (e : ContextError) (r : Result A ContextError) → NoLeaves net m e → IsErrAnd r (λ e'. e' ≡ e) → MatchResult r P (NoLeaves net m)
+refused-on net m P e (Ok x) v h = absurd h
+refused-on net m P e (Err e') v h = subst⁻¹ (NoLeaves net m) h v

@@ -1,9 +1,13 @@
 pub mod Functions
 pub mod Marks
+pub mod Used
 pub mod Steps
+pub mod NodeMarks
 pub mod Entries
+pub mod LeafLists
 pub mod Fanins
 pub mod Numbers
 pub mod Leads
+pub mod Ready
 pub mod Copies
 pub mod Built

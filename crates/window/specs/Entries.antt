@@ -1,32 +1,23 @@
 -- Leaves that are entered into a roll.
-use Rattle.std.specs.Prelude.{◌≡◌, ℕ, ◌<◌, ◌≤◌, Bool, true, false, ◌||◌, List, map, length, take, nat_eq, slice_index_or}
-use Rattle.network.specs.Rows.{no_signal}
+use Rattle.std.specs.Prelude.{◌≡◌, ℕ, ◌<◌, ◌≤◌, Bool, true, false, ◌||◌, List, map, length, take, Ok, Err, Result}
 use Rattle.network.specs.Nets.{Net}
 use Rattle.network.specs.declared.row.Signal.{Signal}
-use Rattle.context.specs.Care.{any_below}
 use Rattle.context.specs.Windows.{leaves_of}
 use Rattle.context.specs.Extracts.{signal_of}
 use Rattle.roll.specs.Rolls.{IsRoll}
 use Rattle.roll.specs.Signals.{signal_below}
 use Rattle.roll.specs.declared.roll.Roll.{Roll}
 use Rattle.window.specs.Limits.{max_leaves}
+use Rattle.window.specs.Lists.{listed}
 use Rattle.window.specs.declared.refusal.ContextError.{ContextError}
 use Rattle.window.specs.declared.refusal.ContextError.TheVariants.{NoNode, Level, Leaves, NoMemory}
-
--- s is the number of one of the signals
-abbrev pub listed : List Signal → ℕ → Bool
-listed xs s = any_below (length xs) (λ i. nat_eq (slice_index_or xs i no_signal).0 s)
 
 -- the first n places are a roll, which has room for as many leaves as a context may have
 pub record LeafRoll (n : ℕ) (places : List Signal) : Type 0 where
   pub roll : IsRoll signal_below n places
   pub room : length places ≡ max_leaves
 
--- a roll of leaves
-abbrev pub OfLeaves : Roll Signal → Type 0
-OfLeaves r = LeafRoll r.count r.places.now
-
--- the entries of a roll of leaves
+-- the entries of a roll
 abbrev pub entries_of : Roll Signal → List Signal
 entries_of r = take r.count r.places.now
 
@@ -36,10 +27,13 @@ pub record Overfull (X : ℕ → Bool) (before after : List Signal) : Type 0 whe
   pub within : (s : ℕ) → listed after s ≡ true → (listed before s || X s) ≡ true
   pub missing : (z : ℕ) × (X z ≡ true) × (listed after z ≡ false)
 
--- the signals X are entered: all of them, or the entries are full
-abbrev pub Enters : (ℕ → Bool) → List Signal → Bool → List Signal → Type 0
-Enters X before true after = (s : ℕ) → listed after s ≡ (listed before s || X s)
-Enters X before false after = Overfull X before after
+-- the signals X are entered: all of them, or the entries are full, which is why there is no list of the leaves
+abbrev pub Enters : (ℕ → Bool) → List Signal → Result Unit ContextError → List Signal → Type 0
+Enters X before (Ok _) after = (s : ℕ) → listed after s ≡ (listed before s || X s)
+Enters X before (Err NoNode) after = ⊥
+Enters X before (Err Level) after = ⊥
+Enters X before (Err Leaves) after = Overfull X before after
+Enters X before (Err NoMemory) after = ⊥
 
 -- why there is no list of the leaves
 abbrev pub NoLeaves : Net → (ℕ → Bool) → ContextError → Type 0

@@ -2,8 +2,10 @@ pub mod Limits
 pub mod Refusals
 pub mod Scopes
 pub mod Sets
+pub mod Lists
 pub mod Entries
 pub mod Numbers
 pub mod Parts
 pub mod Contexts
+pub mod Regions
 pub mod Laws

@@ -1,84 +1,80 @@
 //! The leaves of a context.
-ghost use Rattle.std.specs.Prelude.{◌≡◌, ℕ, ◌<◌, ◌≤◌, Bool, not, ◌&&◌, MatchResult, ◌==◌};
-ghost use Rattle.network.specs.Limits.{max_fanins};
+ghost use Rattle.std.specs.Prelude.{◌≡◌, ℕ, ◌≤◌, Bool, true, not, ◌&&◌, length, take, MatchResult, ◌==◌};
 ghost use Rattle.network.specs.Parts.{net_of};
-ghost use Rattle.context.specs.Levels.{is_fanin};
 ghost use Rattle.context.specs.Windows.{is_leaf};
+ghost use Rattle.roll.specs.Rolls.{ascending};
+ghost use Rattle.roll.specs.Signals.{signal_below};
+ghost use Rattle.window.specs.Limits.{max_leaves};
 ghost use Rattle.window.specs.Sets.{has};
-ghost use Rattle.window.specs.Entries.{OfLeaves, entries_of, Enters, NoLeaves, FoundLeaves};
+ghost use Rattle.window.specs.Lists.{listed};
+ghost use Rattle.window.specs.Entries.{entries_of, Enters, NoLeaves, FoundLeaves};
 
 use crate::limits::MAX_LEAVES;
-use crate::nodes::{node_count, node_row, node_signal};
+use crate::nodes::node_signal;
 use crate::refusal::ContextError;
+use crate::region::Region;
 use crate::set::SignalSet;
-use network::network::Network;
-use network::row::{Row, Signal};
+use network::row::Signal;
 use roll::added::Added;
 use roll::roll::Roll;
 use std::alloc::Global;
 
-/// Enters the signal, unless it is a member; false if the roll is full.
-fn enter(roll: &mut Roll<Signal>, signal: Signal, members: &SignalSet) -> bool
-    requires { OfLeaves roll.old }
-    ensures roll { OfLeaves roll.new }
-    ensures enters { Enters (λ s. not (has members.now s) && signal.0 == s) (entries_of roll.old) result (entries_of roll.new) }
-{
-    if members.has(signal) {
-        return true;
-    }
-    match roll.add(signal) {
-        Added::Entered => true,
-        Added::Present => true,
-        Added::Full => false,
-    }
+/// A roll of signals, with room for as many as a context may have leaves.
+#[derive(Drop)]
+struct LeafList<'a> {
+    roll: Roll<'a, Signal>,
+    ghost room: { length roll.places.now ≡ max_leaves },
+    ghost fits: { roll.count ≤ length roll.places.now },
+    ghost rising: { ascending signal_below (take roll.count roll.places.now) ≡ true },
 }
 
-/// Enters the fanins of the row that are no members; false if the roll is full.
-fn enter_fanins(roll: &mut Roll<Signal>, row: &Row, members: &SignalSet) -> bool
-    requires roll { OfLeaves roll.old }
-    requires few { row.now.count ≤ max_fanins }
-    ensures roll { OfLeaves roll.new }
-    ensures enters { Enters (λ s. not (has members.now s) && is_fanin row.now s) (entries_of roll.old) result (entries_of roll.new) }
-{
-    for i in 0..row.count as usize {
-        if !enter(roll, row.fanins[i], members) {
-            return false;
+impl<'a> LeafList<'a> {
+    /// Enters the signal, unless it is a member.
+    fn enter(&mut self, signal: Signal, members: &SignalSet) -> Result<(), ContextError>
+        ensures { Enters (λ s. not (has members.now s) && signal.0 == s) (entries_of self.old.roll) result (entries_of self.new.roll) }
+    {
+        if members.has(signal) {
+            return Ok(());
+        }
+        match self.roll.add(signal) {
+            Added::Entered | Added::Present => Ok(()),
+            Added::Full => Err(ContextError::Leaves),
         }
     }
-    true
-}
 
-/// Enters the leaves; false if the roll is full.
-fn enter_leaves(roll: &mut Roll<Signal>, network: &Network, members: &SignalSet) -> bool
-    requires { OfLeaves roll.old }
-    ensures roll { OfLeaves roll.new }
-    ensures enters { Enters (is_leaf (net_of network.now) (has members.now)) (entries_of roll.old) result (entries_of roll.new) }
-{
-    for n in 0..node_count(network) {
-        if members.has(node_signal(network, n)) {
-            if !enter_fanins(roll, node_row(network, n), members) {
-                return false;
+    /// Enters the signals that are no members.
+    fn enter_all(&mut self, signals: &[Signal], members: &SignalSet) -> Result<(), ContextError>
+        ensures { Enters (λ s. not (has members.now s) && listed signals.now s) (entries_of self.old.roll) result (entries_of self.new.roll) }
+    {
+        for signal in signals {
+            self.enter(*signal, members)?;
+        }
+        Ok(())
+    }
+
+    /// Enters the leaves.
+    fn enter_leaves(&mut self, region: &Region) -> Result<(), ContextError>
+        ensures { Enters (is_leaf (net_of region.now.network.now) (has region.now.members)) (entries_of self.old.roll) result (entries_of self.new.roll) }
+    {
+        for (n, row) in region.network.rows().iter().enumerate() {
+            if region.members.has(node_signal(region.network, n)) {
+                self.enter_all(row.used(), &region.members)?;
             }
         }
+        Ok(())
     }
-    true
 }
 
-/// The leaves, ascending.
-pub fn leaves(
-    heap: Global,
-    network: &Network,
-    members: &SignalSet,
-) -> Result<Vec<Signal>, ContextError>
-    ensures { MatchResult result (λ v. FoundLeaves (net_of network.now) (has members.now) v.items) (NoLeaves (net_of network.now) (has members.now)) }
-{
-    let mut places = [Signal(0); MAX_LEAVES];
-    let mut roll = Roll::over(&mut places);
-    if !enter_leaves(&mut roll, network, members) {
-        return Err(ContextError::Leaves);
-    }
-    match roll.entries().to_vec(heap) {
-        Ok(all) => Ok(all),
-        Err(_) => Err(ContextError::NoMemory),
+impl<'a> Region<'a> {
+    /// The leaves, ascending.
+    pub fn leaves(&self, heap: Global) -> Result<Vec<Signal>, ContextError>
+        ensures { MatchResult result (λ v. FoundLeaves (net_of self.now.network.now) (has self.now.members) v.items) (NoLeaves (net_of self.now.network.now) (has self.now.members)) }
+    {
+        let mut places = [Signal(0); MAX_LEAVES];
+        let mut list = LeafList {
+            roll: Roll::over(&mut places),
+        };
+        list.enter_leaves(self)?;
+        Ok(list.roll.entries().to_vec(heap)?)
     }
 }

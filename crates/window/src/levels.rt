@@ -5,52 +5,40 @@ ghost use Rattle.network.specs.Parts.{net_of};
 ghost use Rattle.context.specs.Levels.{into, outof};
 ghost use Rattle.window.specs.Sets.{has, feeds, fed};
 
-use crate::nodes::{node_count, node_row, node_signal};
+use crate::nodes::{node_row, node_signal, with_nodes};
 use crate::set::SignalSet;
 use network::network::Network;
 
-/// Inserts into `marks` the fanins of the nodes that are in `from`.
-pub fn widen_in(network: &Network, from: &SignalSet, marks: &mut SignalSet)
-    ensures { (s : ℕ) → has marks.new s ≡ (has marks.old s || feeds (net_of network.now) (has from.now) (nodes (net_of network.now)) s) }
+/// The marks, and the fanins of the nodes that are in `from`.
+pub fn widen_in(network: &Network, from: &SignalSet, marks: SignalSet) -> SignalSet
+    ensures { (s : ℕ) → has result s ≡ (has marks s || feeds (net_of network.now) (has from.now) (nodes (net_of network.now)) s) }
 {
-    for n in 0..node_count(network) {
+    let mut wider = marks;
+    for (n, row) in network.rows().iter().enumerate() {
         if from.has(node_signal(network, n)) {
-            marks.insert_fanins(node_row(network, n));
+            wider.insert_fanins(row);
         }
     }
+    wider
 }
 
-/// Inserts into `marks` the nodes that have a fanin in `from`.
-pub fn widen_out(network: &Network, from: &SignalSet, marks: &mut SignalSet)
-    ensures { (s : ℕ) → has marks.new s ≡ (has marks.old s || fed (net_of network.now) (has from.now) (nodes (net_of network.now)) s) }
+/// The marks, and the nodes that have a fanin in `from`.
+pub fn widen_out(network: &Network, from: &SignalSet, marks: SignalSet) -> SignalSet
+    ensures { (s : ℕ) → has result s ≡ (has marks s || fed (net_of network.now) (has from.now) (nodes (net_of network.now)) s) }
 {
-    for n in 0..node_count(network) {
-        if from.has_fanin(node_row(network, n)) {
-            marks.insert(node_signal(network, n));
-        }
-    }
+    with_nodes(network, marks, |n| from.has_any(node_row(network, n).used()))
 }
 
 /// The signals from which some signal of the set is reached in at most that many edges.
 pub fn reaching(network: &Network, set: SignalSet, edges: u8) -> SignalSet
     ensures { (s : ℕ) → has result s ≡ into (net_of network.now) (has set) edges s }
 {
-    let mut all = set;
-    for _edge in 0..edges {
-        let from = all;
-        widen_in(network, &from, &mut all);
-    }
-    all
+    (0..edges).fold(set, |all, _edge| widen_in(network, &all, all))
 }
 
 /// The signals that are reached from some signal of the set in at most that many edges.
 pub fn reached(network: &Network, set: SignalSet, edges: u8) -> SignalSet
     ensures { (s : ℕ) → has result s ≡ outof (net_of network.now) (has set) edges s }
 {
-    let mut all = set;
-    for _edge in 0..edges {
-        let from = all;
-        widen_out(network, &from, &mut all);
-    }
-    all
+    (0..edges).fold(set, |all, _edge| widen_out(network, &all, all))
 }

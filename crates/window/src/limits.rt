@@ -1,11 +1,7 @@
 //! How large a context may be. `specs/Limits.antt` has the same numbers for the statements.
-use network::limits::{MAX_INPUTS, MAX_NODES};
 
 /// Leaves of a context.
 pub const MAX_LEAVES: usize = 32;
 
 /// A level of a window.
 pub const MAX_LEVEL: u8 = 10;
-
-/// Signals of a network.
-pub const MAX_SIGNALS: usize = MAX_INPUTS + MAX_NODES;

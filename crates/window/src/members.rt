@@ -1,48 +1,37 @@
 //! The members of a context.
-ghost use Rattle.std.specs.Prelude.{◌≡◌, ℕ, ◌+◌, ◌<◌, ◌≤◌, false, ◌&&◌, ◌==◌};
+ghost use Rattle.std.specs.Prelude.{◌≡◌, ℕ, ◌+◌, ◌<◌, ◌≤◌, Bool, ◌&&◌, ◌==◌, MatchResult};
 ghost use Rattle.network.specs.Nets.{nodes};
 ghost use Rattle.network.specs.Parts.{net_of};
-ghost use Rattle.context.specs.Levels.{whole, windowed};
+ghost use Rattle.context.specs.Levels.{whole, into, outof};
 ghost use Rattle.window.specs.Limits.{max_level};
+ghost use Rattle.window.specs.Refusals.{number_of};
 ghost use Rattle.window.specs.Sets.{has};
-ghost use Rattle.window.specs.Scopes.{too_high, member_of};
+ghost use Rattle.window.specs.Contexts.{refusal_of};
+ghost use Rattle.window.specs.Regions.{IsRegion};
 
 use crate::levels::{reached, reaching};
-use crate::nodes::{node_count, node_signal};
+use crate::nodes::{is_node, node_signal, with_nodes};
+use crate::refusal::ContextError;
+use crate::region::Region;
 use crate::scope::Scope;
 use crate::set::SignalSet;
 use network::network::Network;
-
-/// Whether both hold.
-fn both(a: bool, b: bool) -> bool
-    ensures { result ≡ (a && b) }
-{
-    a && b
-}
 
 /// All nodes.
 fn all_nodes(network: &Network) -> SignalSet
     ensures { (s : ℕ) → has result s ≡ whole (net_of network.now) s }
 {
-    let mut all = SignalSet::empty();
-    for n in 0..node_count(network) {
-        all.insert(node_signal(network, n));
-    }
-    all
+    with_nodes(network, SignalSet::empty(), |_n| true)
 }
 
 /// The nodes that are in both sets.
 pub fn common_nodes(network: &Network, a: &SignalSet, b: &SignalSet) -> SignalSet
     ensures { (s : ℕ) → has result s ≡ (whole (net_of network.now) s && (has a.now s && has b.now s)) }
 {
-    let mut common = SignalSet::empty();
-    for n in 0..node_count(network) {
+    with_nodes(network, SignalSet::empty(), |n| {
         let signal = node_signal(network, n);
-        if both(a.has(signal), b.has(signal)) {
-            common.insert(signal);
-        }
-    }
-    common
+        a.has(signal) && b.has(signal)
+    })
 }
 
 /// The set of the node's signal alone.
@@ -55,14 +44,12 @@ fn only(network: &Network, node: usize) -> SignalSet
     set
 }
 
-/// The nodes of a window.
-fn window(network: &Network, node: usize, inward: u8, outward: u8) -> SignalSet
-    requires node { node < nodes (net_of network.now) }
+/// The nodes of the window around a set of signals.
+fn window(network: &Network, target: SignalSet, inward: u8, outward: u8) -> SignalSet
     requires inner { inward ≤ max_level }
     requires outer { outward ≤ max_level }
-    ensures { (s : ℕ) → has result s ≡ windowed (net_of network.now) ((net_of network.now).inputs + node) inward outward s }
+    ensures { (s : ℕ) → has result s ≡ (whole (net_of network.now) s && (into (net_of network.now) (outof (net_of network.now) (has target) outward) (inward + outward) s && outof (net_of network.now) (into (net_of network.now) (has target) inward) (inward + outward) s)) }
 {
-    let target = only(network, node);
     let above = reached(network, target, outward);
     let below = reaching(network, target, inward);
     let edges = inward + outward;
@@ -71,14 +58,31 @@ fn window(network: &Network, node: usize, inward: u8, outward: u8) -> SignalSet
     common_nodes(network, &towards, &onward)
 }
 
-/// The members of the context of a node.
-pub fn members(network: &Network, node: usize, scope: Scope) -> SignalSet
-    requires node { node < nodes (net_of network.now) }
-    requires low { too_high scope ≡ false }
-    ensures { (s : ℕ) → has result s ≡ member_of (net_of network.now) node scope s }
-{
-    match scope {
-        Scope::Whole => all_nodes(network),
-        Scope::Window { inward, outward } => window(network, node, inward, outward),
+impl<'a> Region<'a> {
+    /// The members around a node, by the scope; or why there are none.
+    pub fn around(
+        network: &'a Network,
+        node: usize,
+        scope: Scope,
+    ) -> Result<Region<'a>, ContextError>
+        ensures { MatchResult result (IsRegion (net_of network.now) node scope) (λ e. refusal_of (net_of network.now) node scope ≡ number_of e) }
+    {
+        if !is_node(network, node) {
+            return Err(ContextError::NoNode);
+        }
+        if scope.is_too_high() {
+            return Err(ContextError::Level);
+        }
+        let members = match scope {
+            Scope::Whole => all_nodes(network),
+            Scope::Window { inward, outward } => {
+                window(network, only(network, node), inward, outward)
+            }
+        };
+        Ok(Region {
+            network,
+            node,
+            members,
+        })
     }
 }

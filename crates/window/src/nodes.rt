@@ -1,10 +1,13 @@
 //! The nodes of a network, by their numbers.
-ghost use Rattle.std.specs.Prelude.{◌≡◌, ℕ, ◌+◌, ◌<◌, ◌≤◌, nat_lt};
+ghost use Rattle.std.specs.Prelude.{◌≡◌, ℕ, ◌+◌, ◌<◌, ◌≤◌, Bool, false, ◌||◌, nat_lt};
 ghost use Rattle.network.specs.Limits.{max_inputs, max_nodes};
 ghost use Rattle.network.specs.Rows.{Legal};
 ghost use Rattle.network.specs.Nets.{nodes, row_at};
 ghost use Rattle.network.specs.Parts.{net_of};
+ghost use Rattle.context.specs.Levels.{whole};
+ghost use Rattle.window.specs.Sets.{has};
 
+use crate::set::SignalSet;
 use network::network::Network;
 use network::row::{Row, Signal};
 
@@ -41,4 +44,23 @@ pub fn node_row(network: &Network, n: usize) -> &Row
     ensures legal { Legal ((net_of network.now).inputs + n) result.now }
 {
     &network.rows()[n]
+}
+
+/// The marks, and the nodes whose numbers pass the test.
+pub(crate) fn with_nodes<F: Fn(usize) -> bool>(
+    network: &Network,
+    marks: SignalSet,
+    test: F,
+) -> SignalSet
+    requires { (n : ℕ) → n < nodes (net_of network.now) → F.pre test n }
+    ensures nodes { (n : ℕ) → n < nodes (net_of network.now) → (b : Bool) × F.post test n b × (has result ((net_of network.now).inputs + n) ≡ (has marks ((net_of network.now).inputs + n) || b)) }
+    ensures others { (s : ℕ) → whole (net_of network.now) s ≡ false → has result s ≡ has marks s }
+{
+    let mut wider = marks;
+    for n in 0..node_count(network) {
+        if test(n) {
+            wider.insert(node_signal(network, n));
+        }
+    }
+    wider
 }

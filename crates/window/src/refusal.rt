@@ -1,9 +1,14 @@
 //! Why there is no context.
 ghost use Rattle.std.specs.Prelude.{◌≡◌};
 ghost use Rattle.window.specs.Refusals.{number_of};
+ghost use Rattle.window.specs.declared.refusal.ContextError.TheVariants.{NoMemory};
+
+use std::alloc::AllocError;
+use std::error::Error;
+use std::fmt;
 
 /// Why a context is not built.
-#[derive(Clone, Copy)]
+#[derive(Clone, Copy, PartialEq, Eq, Debug, Drop)]
 pub enum ContextError {
     /// There is no such node.
     NoNode,
@@ -26,5 +31,26 @@ impl ContextError {
             ContextError::Leaves => Some(10),
             ContextError::NoMemory => None,
         }
+    }
+}
+
+impl fmt::Display for ContextError {
+    fn fmt<W: fmt::Write>(&self, f: &mut fmt::Formatter<W>) -> fmt::Result {
+        match self {
+            ContextError::NoNode => write!(f, "there is no such node"),
+            ContextError::Level => write!(f, "a level is above the limit"),
+            ContextError::Leaves => write!(f, "there are too many leaves"),
+            ContextError::NoMemory => write!(f, "memory ran out"),
+        }
+    }
+}
+
+impl Error for ContextError {}
+
+impl From<AllocError> for ContextError {
+    ghost from_gives = { λ _ e. e ≡ NoMemory };
+
+    fn from(_: AllocError) -> Self {
+        Self::NoMemory
     }
 }

@@ -1,21 +1,19 @@
 //! The new numbers of leaves and members.
 ghost use Rattle.std.specs.Prelude.{◌≡◌, ℕ, ◌+◌, ◌<◌, ◌≤◌, true, false, length, if◌then◌else◌, nat_eq, slice_index_or};
-ghost use Rattle.network.specs.Limits.{max_fanins};
-ghost use Rattle.network.specs.Rows.{no_signal};
+ghost use Rattle.network.specs.Limits.{max_fanins, max_signals};
+ghost use Rattle.network.specs.Rows.{no_signal, Legal};
 ghost use Rattle.network.specs.Nets.{size};
 ghost use Rattle.network.specs.Parts.{net_of};
 ghost use Rattle.context.specs.Extracts.{signal_of, renumber};
 ghost use Rattle.context.specs.Care.{count_below};
-ghost use Rattle.window.specs.Limits.{max_leaves, max_signals};
+ghost use Rattle.window.specs.Limits.{max_leaves};
 ghost use Rattle.window.specs.Sets.{has};
 ghost use Rattle.window.specs.Entries.{leaf_signals};
 ghost use Rattle.window.specs.Numbers.{new_at, Numbers};
 
-use crate::limits::MAX_SIGNALS;
 use crate::nodes::{node_count, node_signal};
-use crate::set::SignalSet;
-use network::limits::MAX_FANINS;
-use network::network::Network;
+use crate::region::Region;
+use network::limits::{MAX_FANINS, MAX_SIGNALS};
 use network::row::{Row, Signal};
 
 /// A new number for each number that a signal can have.
@@ -45,12 +43,12 @@ impl Renumbering {
 
     /// The row with its fanins renumbered.
     pub fn row(&self, row: &Row) -> Row
-        requires { row.now.count ≤ max_fanins }
+        requires { (s : ℕ) × Legal s row.now }
         ensures { result ≡ renumber (new_at self.now) row.now }
     {
-        let mut fanins = [Signal(0); MAX_FANINS];
-        for i in 0..row.count as usize {
-            fanins[i] = self.of(row.fanins[i]);
+        let mut fanins = row.fanins;
+        for fanin in &mut fanins[..row.count as usize] {
+            *fanin = self.of(*fanin);
         }
         Row {
             count: row.count,
@@ -58,49 +56,47 @@ impl Renumbering {
             function: row.function,
         }
     }
-}
 
-/// Numbers the leaves, by their places.
-fn number_leaves(leaves: &[Signal]) -> Renumbering
-    requires few { length leaves.now ≤ max_leaves }
-    requires small { (i : ℕ) → i < length leaves.now → (slice_index_or leaves.now i no_signal).0 < max_signals }
-    requires rising { (i j : ℕ) → i < j → j < length leaves.now → (slice_index_or leaves.now i no_signal).0 < (slice_index_or leaves.now j no_signal).0 }
-    ensures { (i : ℕ) → i < length leaves.now → new_at result (slice_index_or leaves.now i no_signal).0 ≡ i }
-{
-    let mut numbers = Renumbering {
-        numbers: [0; MAX_SIGNALS],
-    };
-    for i in 0..leaves.len() {
-        numbers.put(leaves[i], Signal(i as u16));
+    /// Numbers the leaves, by their places.
+    fn of_leaves(leaves: &[Signal]) -> Renumbering
+        requires few { length leaves.now ≤ max_leaves }
+        requires small { (i : ℕ) → i < length leaves.now → (slice_index_or leaves.now i no_signal).0 < max_signals }
+        requires rising { (i j : ℕ) → i < j → j < length leaves.now → (slice_index_or leaves.now i no_signal).0 < (slice_index_or leaves.now j no_signal).0 }
+        ensures { (i : ℕ) → i < length leaves.now → new_at result (slice_index_or leaves.now i no_signal).0 ≡ i }
+    {
+        let mut numbers = Renumbering {
+            numbers: [0; MAX_SIGNALS],
+        };
+        for (i, leaf) in leaves.iter().enumerate() {
+            numbers.put(*leaf, Signal(i as u16));
+        }
+        numbers
     }
-    numbers
-}
 
-/// Numbers the members, behind the leaves.
-fn number_members(network: &Network, members: &SignalSet, leaves: usize, numbers: &mut Renumbering)
-    requires few { leaves ≤ max_leaves }
-    requires above { (s : ℕ) → has members.now s ≡ true → (net_of network.now).inputs ≤ s }
-    ensures members { (s : ℕ) → s < size (net_of network.now) → has members.now s ≡ true → new_at numbers.new s ≡ leaves + count_below s (has members.now) }
-    ensures others { (s : ℕ) → has members.now s ≡ false → new_at numbers.new s ≡ new_at numbers.old s }
-{
-    let mut next = leaves;
-    for n in 0..node_count(network) {
-        let signal = node_signal(network, n);
-        if members.has(signal) {
-            numbers.put(signal, Signal(next as u16));
-            next += 1;
+    /// Numbers the members, behind the leaves.
+    fn add_members(&mut self, region: &Region, leaves: usize)
+        requires { leaves ≤ max_leaves }
+        ensures members { (s : ℕ) → has region.now.members s ≡ true → new_at self.new s ≡ leaves + count_below s (has region.now.members) }
+        ensures others { (s : ℕ) → has region.now.members s ≡ false → new_at self.new s ≡ new_at self.old s }
+    {
+        let mut next = leaves;
+        for n in 0..node_count(region.network) {
+            let signal = node_signal(region.network, n);
+            if region.members.has(signal) {
+                self.put(signal, Signal(next as u16));
+                next += 1;
+            }
         }
     }
-}
 
-/// Numbers the leaves, and behind them the members.
-pub fn number(network: &Network, members: &SignalSet, leaves: &[Signal]) -> Renumbering
-    requires above { (s : ℕ) → has members.now s ≡ true → (net_of network.now).inputs ≤ s }
-    requires leaves { leaves.now ≡ leaf_signals (net_of network.now) (has members.now) }
-    requires few { length leaves.now ≤ max_leaves }
-    ensures { Numbers (net_of network.now) (has members.now) (new_at result) }
-{
-    let mut numbers = number_leaves(leaves);
-    number_members(network, members, leaves.len(), &mut numbers);
-    numbers
+    /// Numbers the leaves, and behind them the members.
+    pub fn new(region: &Region, leaves: &[Signal]) -> Renumbering
+        requires leaves { leaves.now ≡ leaf_signals (net_of region.now.network.now) (has region.now.members) }
+        requires few { length leaves.now ≤ max_leaves }
+        ensures { Numbers (net_of region.now.network.now) (has region.now.members) (new_at result) }
+    {
+        let mut numbers = Renumbering::of_leaves(leaves);
+        numbers.add_members(region, leaves.len());
+        numbers
+    }
 }

@@ -1,13 +1,12 @@
 //! Sets of signals.
-ghost use Rattle.std.specs.Prelude.{◌≡◌, ℕ, ◌<◌, ◌≤◌, Bool, true, false, ◌||◌, length, ◌==◌};
-ghost use Rattle.network.specs.Limits.{max_fanins};
-ghost use Rattle.network.specs.Rows.{fanin};
-ghost use Rattle.context.specs.Care.{any_below};
+ghost use Rattle.std.specs.Prelude.{◌≡◌, ℕ, ◌<◌, ◌≤◌, Bool, true, false, ◌||◌, length, ◌==◌, slice_index_or};
+ghost use Rattle.network.specs.Limits.{max_fanins, max_signals};
+ghost use Rattle.network.specs.Rows.{fanin, no_signal};
 ghost use Rattle.context.specs.Levels.{is_fanin};
-ghost use Rattle.window.specs.Limits.{max_signals};
 ghost use Rattle.window.specs.Sets.{has};
+ghost use Rattle.window.specs.Lists.{listed, some_in};
 
-use crate::limits::MAX_SIGNALS;
+use network::limits::MAX_SIGNALS;
 use network::row::{Row, Signal};
 
 /// A flag for each number that a signal can have.
@@ -36,6 +35,18 @@ impl SignalSet {
         self.flags[signal.0 as usize]
     }
 
+    /// Whether some of the signals is in the set.
+    pub(crate) fn has_any(&self, signals: &[Signal]) -> bool
+        ensures { result ≡ some_in (has self.now) signals.now }
+    {
+        for signal in signals {
+            if self.has(*signal) {
+                return true;
+            }
+        }
+        false
+    }
+
     /// A flag for each number that a signal can have.
     pub fn flags(&self) -> &[bool]
         ensures value { result.now ≡ self.now.flags }
@@ -52,27 +63,23 @@ impl SignalSet {
         self.flags[signal.0 as usize] = true;
     }
 
+    /// Inserts the signals.
+    pub fn insert_all(&mut self, signals: &[Signal])
+        requires { (i : ℕ) → i < length signals.now → (slice_index_or signals.now i no_signal).0 < max_signals }
+        ensures { (s : ℕ) → has self.new s ≡ (has self.old s || listed signals.now s) }
+    {
+        for signal in signals {
+            self.insert(*signal);
+        }
+    }
+
     /// Inserts the fanins of the row.
     pub fn insert_fanins(&mut self, row: &Row)
         requires few { row.now.count ≤ max_fanins }
         requires small { (i : ℕ) → i < row.now.count → fanin row.now i < max_signals }
         ensures { (s : ℕ) → has self.new s ≡ (has self.old s || is_fanin row.now s) }
     {
-        for i in 0..row.count as usize {
-            self.insert(row.fanins[i]);
-        }
-    }
-
-    /// Whether some fanin of the row is in the set.
-    pub(crate) fn has_fanin(&self, row: &Row) -> bool
-        requires { row.now.count ≤ max_fanins }
-        ensures { result ≡ any_below row.now.count (λ i. has self.now (fanin row.now i)) }
-    {
-        for i in 0..row.count as usize {
-            if self.has(row.fanins[i]) {
-                return true;
-            }
-        }
-        false
+        let places = &row.fanins[..];
+        self.insert_all(&places[..row.count as usize]);
     }
 }

@@ -1,63 +1,38 @@
 //! Building a context.
-ghost use Rattle.std.specs.Prelude.{◌≡◌, ℕ, ◌<◌, Bool, false, MatchResult};
-ghost use Rattle.network.specs.Nets.{nodes};
+ghost use Rattle.std.specs.Prelude.{◌≡◌, ℕ, MatchResult};
 ghost use Rattle.network.specs.Parts.{net_of};
-ghost use Rattle.window.specs.Scopes.{too_high, member_of};
 ghost use Rattle.window.specs.Sets.{has};
-ghost use Rattle.window.specs.Entries.{leaf_signals};
-ghost use Rattle.window.specs.Numbers.{Ready};
 ghost use Rattle.window.specs.Contexts.{IsContext, Gathers, Builds};
 ghost use Rattle.window.specs.Laws.{ByPaths, OfContext, SameValues, SameInverted, FreeExactly, FreeSoundly, FreeInWhole, OwnFunction, Safe, Harmful};
 
 use super::Context;
-use crate::extract::extract;
-use crate::leaves::leaves;
-use crate::members::members;
-use crate::nodes::{is_node, node_signal};
+use crate::nodes::node_signal;
+use crate::numbered::Numbered;
 use crate::refusal::ContextError;
-use crate::renumber::number;
+use crate::region::Region;
 use crate::scope::Scope;
-use crate::set::SignalSet;
 use network::network::Network;
-use network::row::Signal;
 use std::alloc::Global;
 
-/// The context with those members and leaves.
-fn assemble(
-    heap: Global,
-    network: &Network,
-    node: usize,
-    members: &SignalSet,
-    leaves: Vec<Signal>,
-) -> Result<Context, ContextError>
-    requires ready { Ready (net_of network.now) (has members.now) node }
-    requires leaves { leaves.items ≡ leaf_signals (net_of network.now) (has members.now) }
-    ensures { MatchResult result (IsContext (net_of network.now) (has members.now) node) (λ e. e ≡ ContextError.NoMemory) }
+/// The context of a numbered region.
+fn assemble(heap: Global, numbered: Numbered) -> Result<Context, ContextError>
+    ensures { MatchResult result (IsContext (net_of numbered.entry.region.network.now) (has numbered.entry.region.members) numbered.entry.region.node) (λ e. e ≡ ContextError.NoMemory) }
 {
-    let numbers = number(network, members, leaves.as_slice());
-    let extracted = extract(heap, network, members, node, &numbers, leaves.len())?;
-    let target = numbers.of(node_signal(network, node)).0 as usize - leaves.len();
+    let network = numbered.extract(heap)?;
+    let signal = node_signal(numbered.region.network, numbered.region.node);
+    let target = numbered.numbers.of(signal).0 as usize - numbered.leaves.len();
     Ok(Context {
-        network: extracted,
+        network,
         target,
-        leaves,
+        leaves: numbered.leaves,
     })
 }
 
-/// The context, where there is such a node and no level is too high.
-fn gather(
-    heap: Global,
-    network: &Network,
-    node: usize,
-    scope: Scope,
-) -> Result<Context, ContextError>
-    requires node { node < nodes (net_of network.now) }
-    requires low { too_high scope ≡ false }
-    ensures { Gathers (net_of network.now) (member_of (net_of network.now) node scope) node result }
+/// The context of a region.
+fn gather(heap: Global, region: Region) -> Result<Context, ContextError>
+    ensures { Gathers (net_of region.entry.network.now) (has region.entry.members) region.entry.node result }
 {
-    let members = members(network, node, scope);
-    let leaves = leaves(heap, network, &members)?;
-    assemble(heap, network, node, &members, leaves)
+    assemble(heap, Numbered::of(heap, region)?)
 }
 
 /// The context, or the first refusal that applies.
@@ -69,13 +44,7 @@ fn judge(
 ) -> Result<Context, ContextError>
     ensures { Builds (net_of network.now) node scope result }
 {
-    if !is_node(network, node) {
-        return Err(ContextError::NoNode);
-    }
-    if scope.is_too_high() {
-        return Err(ContextError::Level);
-    }
-    gather(heap, network, node, scope)
+    gather(heap, Region::around(network, node, scope)?)
 }
 
 impl Context {

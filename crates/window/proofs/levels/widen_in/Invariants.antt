@@ -4,4 +4,4 @@ use Rattle.window.specs.Sets.{has, feeds}
 use Rattle.window.proofs.levels.widen_in.Given as goal
 
 abbrev pub invariant-loop-n : goal.invariant-loop-n
-invariant-loop-n l = (s : ℕ) → has l.marks s ≡ (has l.initial.marks s || feeds (net_of l.network) (has l.from) l.n s)
+invariant-loop-n l = (s : ℕ) → has l.wider s ≡ (has l.fn.marks s || feeds (net_of l.network) (has l.from) l.n s)

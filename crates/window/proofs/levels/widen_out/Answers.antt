@@ -1,40 +1,23 @@
-use Rattle.std.proofs.Common.{◌≡◌, ℕ, ◌+◌, Bool, ◌&&◌, ◌||◌, eqb, sym, ap, ◌∙◌, arith}
+use Rattle.std.proofs.Common.{rules, ◌≡◌, ℕ, ◌+◌, ◌<◌, ◌≤◌, Bool, ◌||◌, List, length, get_or, take, ap, ◌∙◌, arith}
 use Rattle.network.specs.Rows.{fanin}
 use Rattle.network.specs.Nets.{nodes, row_at}
 use Rattle.network.specs.Parts.{net_of}
-use Rattle.network.specs.declared.row.Row.{Row}
+use Rattle.network.proofs.Nets.{legal-net}
 use Rattle.context.specs.Care.{any_below}
-use Rattle.window.specs.Sets.{has, fed}
-use Rattle.window.specs.declared.set.SignalSet.{SignalSet}
-use Rattle.window.proofs.Marks.{any-zero, mark-next, mark-skip, and_yes, and_no}
+use Rattle.window.specs.Sets.{has}
+use Rattle.window.specs.Lists.{some_in}
+use Rattle.window.proofs.NodeMarks.{numbers-marked}
+use Rattle.window.proofs.Used.{some-used}
 use Rattle.window.proofs.levels.widen_out.Goals as goal
-use Rattle.window.proofs.levels.widen_out.Goals.{then-has_fanin, else-has_fanin}
-
-pub loop-n-init : goal.loop-n-init
-loop-n-init c = λ s.
-    let net = net_of c.args.network.now in
-    any-zero (has c.args.marks.now s) (λ j. eqb (net.inputs + j) s && any_below (row_at net j).count (λ i. has c.args.from.now (fanin (row_at net j) i)))
-
-pub loop-n-preserved : goal.loop-n-preserved
-loop-n-preserved c = λ s.
-    let net = net_of c.args.network.now in
-    let n : ℕ = c.loop-n.n in
-    let f : ℕ → Bool = has c.args.from.now in
-    let a : ℕ → Bool = λ j. any_below (row_at net j).count (λ i. has c.args.from.now (fanin (row_at net j) i)) in
-    let p : ℕ → Bool = λ j. eqb (net.inputs + j) s && a j in
-    let v : Bool = has c.loop-n.marks s in
-    let e : Bool = has c.args.marks.now s in
-    let here : a n ≡ c.has_fanin.result = sym (c.has_fanin.ensures ∙ ap (λ (r : Row). any_below r.count (λ i. f (fanin r i))) c.node_row.ensures.value) in
-    elim c.if-has_fanin.branch [
-      | then-has_fanin w ↦
-          ap (λ (xs : SignalSet). has xs s) w.marks-is ∙ w.insert.ensures s ∙ ap (λ k. v || eqb k s) w.node_signal.ensures.value
-          ∙ mark-next v e (eqb (net.inputs + n) s) n p (c.loop-n.invariant s) (and_yes (eqb (net.inputs + n) s) (a n) (here ∙ w.if-has_fanin.true))
-      | else-has_fanin w ↦
-          ap (λ (xs : SignalSet). has xs s) w.marks-is ∙ mark-skip v e n p (c.loop-n.invariant s) (and_no (eqb (net.inputs + n) s) (a n) (here ∙ w.if-has_fanin.false))
-    ]
 
 pub returns : goal.returns
-returns c = λ s.
+returns c =
     let net = net_of c.args.network.now in
-    let e : c.loop-n.n ≡ nodes net = omega (arith, c.node_count-n-end.ensures.value) in
-    c.loop-n.invariant s ∙ ap (λ n. has c.args.marks.now s || fed net (has c.args.from.now) n s) e
+    let f : ℕ → Bool = has c.args.from.now in
+    let a : ℕ → Bool = λ j. any_below (row_at net j).count (λ i. f (fanin (row_at net j) i)) in
+    numbers-marked net (has c.args.marks) (has c.with_nodes.result) c.with_nodes.ensures.others a (λ n l.
+    let w = c.with_nodes.ensures.nodes n l in
+    let legal = (legal-net c.args.network.now).row n l in
+    let few : (row_at net n).count ≤ length (row_at net n).fanins = omega arith in
+    let e : w.0 ≡ some_in f (take (row_at net n).count (row_at net n).fanins) = search rules in
+    w.2 ∙ ap (λ b. has c.args.marks (net.inputs + n) || b) (e ∙ some-used f (row_at net n) few))

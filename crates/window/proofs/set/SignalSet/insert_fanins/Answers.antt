@@ -1,14 +1,18 @@
-use Rattle.std.proofs.Common.{ℕ, eqb, refl, ◌∙◌}
-use Rattle.network.specs.Rows.{fanin}
+use Rattle.std.proofs.Common.{◌≡◌, ℕ, ◌<◌, ◌≤◌, ◌||◌, length, eqb, ap, ◌∙◌, arith}
+use Rattle.std.proofs.lemmas.List.{length-take-le, get_or-take}
+use Rattle.network.specs.Rows.{no_signal}
+use Rattle.network.specs.declared.row.Signal.{Signal}
 use Rattle.window.specs.Sets.{has}
-use Rattle.window.proofs.Marks.{any-zero, mark-next}
+use Rattle.window.proofs.Used.{some-used}
 use Rattle.window.proofs.set.SignalSet.insert_fanins.Goals as goal
 
-pub loop-i-init : goal.loop-i-init
-loop-i-init c = λ s. any-zero (has c.args.self.now s) (λ m. eqb (fanin c.args.row.now m) s)
+pub insert_all-requires : goal.insert_all-requires
+insert_all-requires c = λ i l.
+    let few : c.args.row.now.count ≤ length c.args.row.now.fanins = omega arith in
+    let q : i < c.args.row.now.count = omega (arith, length-take-le c.args.row.now.count c.args.row.now.fanins few) in
+    omega (arith, ap (λ (s : Signal). s.0) (get_or-take c.args.row.now.count c.args.row.now.fanins i no_signal q), c.requires.small i q)
 
-pub loop-i-preserved : goal.loop-i-preserved
-loop-i-preserved c = λ s.
-    let f : ℕ = fanin c.args.row.now c.loop-i.i in
-    c.insert.ensures s
-    ∙ mark-next (has c.loop-i.self s) (has c.args.self.now s) (eqb f s) c.loop-i.i (λ m. eqb (fanin c.args.row.now m) s) (c.loop-i.invariant s) refl
+pub returns : goal.returns
+returns c = λ s.
+    let few : c.args.row.now.count ≤ length c.args.row.now.fanins = omega arith in
+    c.insert_all.ensures s ∙ ap (λ b. has c.args.self.now s || b) (some-used (λ k. eqb k s) c.args.row.now few)

@@ -1,8 +1,0 @@
-use Rattle.std.proofs.Common.{◌≡◌}
-use Rattle.network.specs.Parts.{net_of}
-use Rattle.window.specs.Sets.{has}
-use Rattle.window.specs.Parts.{roots_to}
-use Rattle.window.proofs.extract.copy_roots.Given as goal
-
-abbrev pub invariant-loop-s : goal.invariant-loop-s
-invariant-loop-s l = net_of l.out ≡ roots_to (net_of l.network) (has l.members) l.node l.s

@@ -1,0 +1,10 @@
+use Rattle.std.proofs.Common.{◌≡◌, ℕ, not, ◌&&◌, ◌||◌}
+use Rattle.network.specs.Parts.{net_of}
+use Rattle.window.specs.Sets.{has, feeds}
+use Rattle.window.specs.Lists.{listed}
+use Rattle.window.specs.Entries.{entries_of}
+use Rattle.window.proofs.leaves.LeafList.enter_leaves.Given as goal
+
+abbrev pub invariant-loop-n : goal.invariant-loop-n
+invariant-loop-n l =
+    (s : ℕ) → listed (entries_of l.self.roll) s ≡ (listed (entries_of l.initial.self.roll) s || (not (has l.region.members s) && feeds (net_of l.region.network.now) (has l.region.members) l.n s))

@@ -1,8 +1,0 @@
-use Rattle.std.proofs.Common.{◌≡◌, ℕ, ◌+◌, not, ◌&&◌, eqb}
-use Rattle.network.specs.Parts.{net_of}
-use Rattle.context.specs.Care.{any_below}
-use Rattle.window.specs.Sets.{has}
-use Rattle.window.proofs.roots.other_nodes.Given as goal
-
-abbrev pub invariant-loop-n : goal.invariant-loop-n
-invariant-loop-n l = (s : ℕ) → has l.others s ≡ any_below l.n (λ j. eqb ((net_of l.network).inputs + j) s && not (has l.members ((net_of l.network).inputs + j)))
