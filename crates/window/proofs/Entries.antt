@@ -28,7 +28,12 @@ use Rattle.window.specs.Limits.{max_leaves}
 use Rattle.window.specs.declared.refusal.ContextError.{ContextError}
 use Rattle.window.specs.declared.refusal.ContextError.TheVariants.{NoNode, Level, Leaves, NoMemory}
 use Rattle.window.specs.Lists.{listed}
-use Rattle.window.specs.Entries.{LeafRoll, Overfull, Enters, NoLeaves, leaf_signals}
+use Rattle.window.specs.Entries.{Overfull, Enters, NoLeaves, leaf_signals}
+
+-- the first n places are a roll, which has room for as many leaves as a context may have
+pub record LeafRoll (n : ℕ) (places : List Signal) : Type 0 where
+  pub roll : IsRoll signal_below n places
+  pub room : length places ≡ max_leaves
 
 pub same_truth : (a b : Bool) → (a ≡ true → b ≡ true) → (b ≡ true → a ≡ true) → a ≡ b
 same_truth true b f g = sym (f refl)

@@ -4,22 +4,15 @@ use Rattle.network.specs.Nets.{Net}
 use Rattle.network.specs.declared.row.Signal.{Signal}
 use Rattle.context.specs.Windows.{leaves_of}
 use Rattle.context.specs.Extracts.{signal_of}
-use Rattle.roll.specs.Rolls.{IsRoll}
-use Rattle.roll.specs.Signals.{signal_below}
-use Rattle.roll.specs.declared.roll.Roll.{Roll}
 use Rattle.window.specs.Limits.{max_leaves}
 use Rattle.window.specs.Lists.{listed}
+use Rattle.window.specs.declared.leaf_list.LeafList.{LeafList}
 use Rattle.window.specs.declared.refusal.ContextError.{ContextError}
 use Rattle.window.specs.declared.refusal.ContextError.TheVariants.{NoNode, Level, Leaves, NoMemory}
 
--- the first n places are a roll, which has room for as many leaves as a context may have
-pub record LeafRoll (n : ℕ) (places : List Signal) : Type 0 where
-  pub roll : IsRoll signal_below n places
-  pub room : length places ≡ max_leaves
-
--- the entries of a roll
-abbrev pub entries_of : Roll Signal → List Signal
-entries_of r = take r.count r.places.now
+-- the signals that are entered
+abbrev pub entries_of : LeafList → List Signal
+entries_of l = take l.roll.count l.roll.places.now
 
 -- the entries are full: each was there before or is one of X, and one of X is missing
 pub record Overfull (X : ℕ → Bool) (before after : List Signal) : Type 0 where

@@ -1,14 +1,12 @@
 //! The leaves of a context.
-ghost use Rattle.std.specs.Prelude.{◌≡◌, ℕ, ◌≤◌, Bool, true, not, ◌&&◌, length, take, MatchResult, ◌==◌};
+ghost use Rattle.std.specs.Prelude.{◌≡◌, ℕ, Bool, not, ◌&&◌, MatchResult, ◌==◌};
 ghost use Rattle.network.specs.Parts.{net_of};
 ghost use Rattle.context.specs.Windows.{is_leaf};
-ghost use Rattle.roll.specs.Rolls.{ascending};
-ghost use Rattle.roll.specs.Signals.{signal_below};
-ghost use Rattle.window.specs.Limits.{max_leaves};
 ghost use Rattle.window.specs.Sets.{has};
 ghost use Rattle.window.specs.Lists.{listed};
 ghost use Rattle.window.specs.Entries.{entries_of, Enters, NoLeaves, FoundLeaves};
 
+use crate::leaf_list::LeafList;
 use crate::limits::MAX_LEAVES;
 use crate::nodes::node_signal;
 use crate::refusal::ContextError;
@@ -19,19 +17,10 @@ use roll::added::Added;
 use roll::roll::Roll;
 use std::alloc::Global;
 
-/// A roll of signals, with room for as many as a context may have leaves.
-#[derive(Drop)]
-struct LeafList<'a> {
-    roll: Roll<'a, Signal>,
-    ghost room: { length roll.places.now ≡ max_leaves },
-    ghost fits: { roll.count ≤ length roll.places.now },
-    ghost rising: { ascending signal_below (take roll.count roll.places.now) ≡ true },
-}
-
 impl<'a> LeafList<'a> {
     /// Enters the signal, unless it is a member.
     fn enter(&mut self, signal: Signal, members: &SignalSet) -> Result<(), ContextError>
-        ensures { Enters (λ s. not (has members.now s) && signal.0 == s) (entries_of self.old.roll) result (entries_of self.new.roll) }
+        ensures { Enters (λ s. not (has members.now s) && signal.0 == s) (entries_of self.old) result (entries_of self.new) }
     {
         if members.has(signal) {
             return Ok(());
@@ -44,7 +33,7 @@ impl<'a> LeafList<'a> {
 
     /// Enters the signals that are no members.
     fn enter_all(&mut self, signals: &[Signal], members: &SignalSet) -> Result<(), ContextError>
-        ensures { Enters (λ s. not (has members.now s) && listed signals.now s) (entries_of self.old.roll) result (entries_of self.new.roll) }
+        ensures { Enters (λ s. not (has members.now s) && listed signals.now s) (entries_of self.old) result (entries_of self.new) }
     {
         for signal in signals {
             self.enter(*signal, members)?;
@@ -54,7 +43,7 @@ impl<'a> LeafList<'a> {
 
     /// Enters the leaves.
     fn enter_leaves(&mut self, region: &Region) -> Result<(), ContextError>
-        ensures { Enters (is_leaf (net_of region.now.network.now) (has region.now.members)) (entries_of self.old.roll) result (entries_of self.new.roll) }
+        ensures { Enters (is_leaf (net_of region.now.network.now) (has region.now.members)) (entries_of self.old) result (entries_of self.new) }
     {
         for (n, row) in region.network.rows().iter().enumerate() {
             if region.members.has(node_signal(region.network, n)) {

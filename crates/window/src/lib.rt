@@ -3,6 +3,7 @@
 
 mod extract;
 pub mod extracted;
+mod leaf_list;
 mod leaves;
 mod levels;
 pub mod limits;

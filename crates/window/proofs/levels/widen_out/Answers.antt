@@ -1,6 +1,6 @@
-use Rattle.std.proofs.Common.{rules, ◌≡◌, ℕ, ◌+◌, ◌<◌, ◌≤◌, Bool, ◌||◌, List, length, get_or, take, ap, ◌∙◌, arith}
+use Rattle.std.proofs.Common.{rules, ◌≡◌, ℕ, ◌+◌, ◌≤◌, Bool, ◌||◌, length, take, ap, ◌∙◌, arith}
 use Rattle.network.specs.Rows.{fanin}
-use Rattle.network.specs.Nets.{nodes, row_at}
+use Rattle.network.specs.Nets.{row_at}
 use Rattle.network.specs.Parts.{net_of}
 use Rattle.network.proofs.Nets.{legal-net}
 use Rattle.context.specs.Care.{any_below}

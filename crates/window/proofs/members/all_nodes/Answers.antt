@@ -1,4 +1,4 @@
-use Rattle.std.proofs.Common.{rules, ◌≡◌, ℕ, ◌+◌, true, ◌&&◌, ◌||◌, ap, ◌∙◌}
+use Rattle.std.proofs.Common.{rules, ◌≡◌, ◌+◌, true, ◌&&◌, ◌||◌, ap, ◌∙◌}
 use Rattle.network.specs.Parts.{net_of}
 use Rattle.context.specs.Levels.{whole}
 use Rattle.window.specs.Sets.{has}

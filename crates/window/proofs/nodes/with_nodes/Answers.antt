@@ -1,4 +1,4 @@
-use Rattle.std.proofs.Common.{◌≡◌, ℕ, ◌+◌, ◌<◌, Bool, sym, subst, arith}
+use Rattle.std.proofs.Common.{◌≡◌, ◌+◌, Bool, sym, subst, arith}
 use Rattle.network.specs.Nets.{nodes}
 use Rattle.network.specs.Parts.{net_of}
 use Rattle.window.specs.Sets.{has}

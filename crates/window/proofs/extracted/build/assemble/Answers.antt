@@ -1,4 +1,4 @@
-use Rattle.std.proofs.Common.{◌≡◌, ℕ, ◌+◌, ◌<◌, length, sym, ap, ◌∙◌, arith}
+use Rattle.std.proofs.Common.{◌≡◌, ◌+◌, ◌<◌, length, sym, ap, ◌∙◌, arith}
 use Rattle.network.specs.Nets.{Net, nodes}
 use Rattle.network.specs.Parts.{net_of}
 use Rattle.network.specs.declared.row.Signal.{Signal}

@@ -1,4 +1,4 @@
-use Rattle.std.proofs.Common.{◌≡◌, ℕ, Bool, subst}
+use Rattle.std.proofs.Common.{ℕ, Bool, subst}
 use Rattle.network.specs.Nets.{Net}
 use Rattle.network.specs.Parts.{net_of}
 use Rattle.window.specs.Sets.{has}

@@ -4,8 +4,8 @@ use Rattle.context.specs.Care.{any_below}
 use Rattle.window.specs.Sets.{has}
 use Rattle.window.specs.Lists.{listed}
 use Rattle.window.specs.Entries.{entries_of}
-use Rattle.window.proofs.leaves.LeafList.enter_all.Given as goal
+use Rattle.window.proofs.leaf_list.LeafList.enter_all.Given as goal
 
 abbrev pub invariant-loop-signal : goal.invariant-loop-signal
 invariant-loop-signal l =
-    (s : ℕ) → listed (entries_of l.self.roll) s ≡ (listed (entries_of l.initial.self.roll) s || (not (has l.members s) && any_below l.signal-index (λ k. eqb (get_or l.signals k no_signal).0 s)))
+    (s : ℕ) → listed (entries_of l.self) s ≡ (listed (entries_of l.initial.self) s || (not (has l.members s) && any_below l.signal-index (λ k. eqb (get_or l.signals k no_signal).0 s)))

@@ -2,12 +2,10 @@ use Rattle.std.proofs.Common.{sym, ◌∙◌}
 use Rattle.window.specs.Sets.{has}
 use Rattle.window.proofs.Entries.{enters-added, enters-full, rolled}
 use Rattle.window.proofs.LeafLists.{leaf-roll}
-use Rattle.window.proofs.leaves.LeafList.enter.Goals as goal
+use Rattle.window.proofs.leaf_list.LeafList.enter.Goals as goal
 
 pub invariant_of-self : goal.invariant_of-self
-invariant_of-self c =
-    let v = rolled c.args.signal _ _ _ _ c.add.result (leaf-roll c.args.self.now) c.add.ensures.adds c.add.ensures.roll in
-    record { room = v.room; fits = v.roll.fits; rising = v.roll.rising }
+invariant_of-self c = record { room = (rolled c.args.signal _ _ _ _ c.add.result (leaf-roll c.args.self.now) c.add.ensures.adds c.add.ensures.roll).room }
 
 pub returns-in-Entered : goal.returns-in-Entered
 returns-in-Entered c =
