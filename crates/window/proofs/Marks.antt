@@ -1,6 +1,8 @@
 -- Flags that are set one by one.
-use Rattle.std.proofs.Common.{◌≡◌, ℕ, ◌+◌, ◌<◌, ◌≤◌, Bool, true, false, ◌&&◌, ◌||◌, eqb, List, length, get_or, set, sym, refl, ap, ◌∙◌, ⊎_elim, add-one, arith}
-use Rattle.std.proofs.lemmas.List.{get_or-set_same, get_or-set_other}
+use Rattle.std.proofs.Common.{◌≡◌, ℕ, zero, suc, ◌+◌, ◌<◌, ◌≤◌, Bool, true, false, ◌&&◌, ◌||◌, eqb, List, length, get_or, set, take, sym, refl, ap, ◌∙◌, ⊎_elim, add-one, arith}
+use Rattle.std.specs.List.{list_any}
+use Rattle.std.proofs.lemmas.List.{get_or-set_same, get_or-set_other, take_all}
+use Rattle.std.proofs.lemmas.List.Folds.{list_any_more}
 use Rattle.std.proofs.lemmas.Bool.{cases_eq, eq-eqb, ne_eqb, or_cases, or_left, or_right, and_parts, and_from}
 use Rattle.context.proofs.Any.{any-find, any_some}
 use Rattle.context.specs.Care.{any_below}
@@ -20,6 +22,16 @@ shuffle false true false = refl
 shuffle false false true = refl
 shuffle false false false = refl
 
+or_swap : (a b : Bool) → (a || b) ≡ (b || a)
+or_swap true true = refl
+or_swap true false = refl
+or_swap false true = refl
+or_swap false false = refl
+
+any-none : (p : ℕ → Bool) → false ≡ any_below 0 p
+unfolding any_below
+any-none p = refl
+
 pub any-zero : (b : Bool) (p : ℕ → Bool) → b ≡ (b || any_below 0 p)
 unfolding any_below
 any-zero b p = or_no b
@@ -27,6 +39,17 @@ any-zero b p = or_no b
 pub any_next : (n : ℕ) (p : ℕ → Bool) → any_below (n + 1) p ≡ (p n || any_below n p)
 unfolding any_below
 any_next n p = ap (λ m. any_below m p) (add-one n)
+
+-- whether one of the first n elements has p, as two words say it
+pub list_any-take : {X : Type 0} (p : X → Bool) (xs : List X) (d : X) (n : ℕ) → n ≤ length xs → list_any p (take n xs) ≡ any_below n (λ i. p (get_or xs i d))
+list_any-take p xs d zero l = any-none (λ i. p (get_or xs i d))
+list_any-take p xs d (suc n) l =
+    let q : n < length xs = omega (arith, add-one n) in
+    ap (λ k. list_any p (take k xs)) (sym (add-one n)) ∙ list_any_more p xs n d q ∙ or_swap (list_any p (take n xs)) (p (get_or xs n d))
+    ∙ ap (λ b. p (get_or xs n d) || b) (list_any-take p xs d n (omega arith)) ∙ sym (any_next n (λ i. p (get_or xs i d))) ∙ ap (λ k. any_below k (λ i. p (get_or xs i d))) (add-one n)
+
+pub list_any-below : {X : Type 0} (p : X → Bool) (xs : List X) (d : X) → list_any p xs ≡ any_below (length xs) (λ i. p (get_or xs i d))
+list_any-below p xs d = ap (list_any p) (sym (take_all (length xs) xs (omega arith))) ∙ list_any-take p xs d (length xs) (omega arith)
 
 pub mark-one : (xs : List Bool) (f s : ℕ) → f < length xs → get_or (set xs f true) s false ≡ (get_or xs s false || eqb f s)
 mark-one xs f s l =

@@ -27,10 +27,7 @@ impl Renumbering {
     pub fn of(&self, signal: Signal) -> Signal
         ensures { result ≡ signal_of (new_at self.now signal.0) }
     {
-        if signal.0 as usize >= MAX_SIGNALS {
-            return Signal(0);
-        }
-        Signal(self.numbers[signal.0 as usize])
+        Signal(self.numbers.get(signal.0 as usize).copied().unwrap_or(0))
     }
 
     /// Gives the signal a new number.
@@ -79,6 +76,7 @@ impl Renumbering {
         ensures members { (s : ℕ) → has region.now.members s ≡ true → new_at self.new s ≡ leaves + count_below s (has region.now.members) }
         ensures others { (s : ℕ) → has region.now.members s ≡ false → new_at self.new s ≡ new_at self.old s }
     {
+        // The members alone are counted, so `next` is no index of the loop.
         let mut next = leaves;
         for n in 0..node_count(region.network) {
             let signal = node_signal(region.network, n);

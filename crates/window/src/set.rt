@@ -29,22 +29,17 @@ impl SignalSet {
     pub fn has(&self, signal: Signal) -> bool
         ensures { result ≡ has self.now signal.0 }
     {
-        if signal.0 as usize >= MAX_SIGNALS {
-            return false;
-        }
-        self.flags[signal.0 as usize]
+        self.flags
+            .get(signal.0 as usize)
+            .copied()
+            .unwrap_or(false)
     }
 
     /// Whether some of the signals is in the set.
     pub(crate) fn has_any(&self, signals: &[Signal]) -> bool
         ensures { result ≡ some_in (has self.now) signals.now }
     {
-        for signal in signals {
-            if self.has(*signal) {
-                return true;
-            }
-        }
-        false
+        signals.iter().any(|signal| self.has(*signal))
     }
 
     /// A flag for each number that a signal can have.

@@ -1,4 +1,4 @@
-use Rattle.std.proofs.Common.{◌≡◌, ℕ, ◌+◌, ◌<◌, Bool, true, not, ◌&&◌, ◌||◌, eqb, length, sym, ap, ◌∙◌, arith}
+use Rattle.std.proofs.Common.{◌≡◌, ℕ, ◌+◌, ◌<◌, Bool, true, not, ◌&&◌, ◌||◌, length, sym, ap, ◌∙◌, arith}
 use Rattle.network.specs.Nets.{nodes, row_at}
 use Rattle.network.specs.Parts.{net_of}
 use Rattle.network.proofs.Nets.{legal-net}
@@ -8,7 +8,7 @@ use Rattle.window.specs.Lists.{listed}
 use Rattle.window.specs.Entries.{entries_of}
 use Rattle.window.specs.declared.leaf_list.LeafList.{LeafList}
 use Rattle.window.proofs.Marks.{guard-zero, guard-next, guard-skip, guard-part, guard-one}
-use Rattle.window.proofs.Used.{some_used}
+use Rattle.window.proofs.Used.{listed_used}
 use Rattle.window.proofs.Entries.{full-more, handed-on}
 use Rattle.window.proofs.leaf_list.LeafList.enter_leaves.Goals as goal
 use Rattle.window.proofs.leaf_list.LeafList.enter_leaves.Goals.{then-has+in_ok-enter_all, else-has}
@@ -33,7 +33,7 @@ loop-n-preserved c = λ s.
     elim c.if-has.branch [
       | then-has+in_ok-enter_all w ↦
           ap (λ (r : LeafList). listed (entries_of r) s) w.self-is ∙ w.in_ok-enter_all.ensures s
-          ∙ ap (λ b. v || (not (m s) && b)) (some_used net (λ k. eqb k s) c.rows-row-items.result.now w.used.result.now n (legal-net c.args.region.now.network.now) l c.rows-row-items.ensures.value w.used.ensures.value)
+          ∙ ap (λ b. v || (not (m s) && b)) (listed_used net c.rows-row-items.result.now w.used.result.now n (legal-net c.args.region.now.network.now) l c.rows-row-items.ensures.value w.used.ensures.value s)
           ∙ guard-next v e (not (m s)) q n p (c.loop-n.invariant s) (ap (λ b. b && q) (here ∙ w.if-has.true))
       | else-has w ↦
           ap (λ (r : LeafList). listed (entries_of r) s) w.self-is ∙ guard-skip v e (not (m s)) n p (c.loop-n.invariant s) (ap (λ b. b && q) (here ∙ w.if-has.false))
@@ -58,7 +58,7 @@ returns-in_err-enter_all c =
     let mid = entries_of c.loop-n.self in
     let out : ℕ → Bool = λ s. not (m s) in
     let used : (s : ℕ) → listed c.used.result.now s ≡ is_fanin (row_at net n) s =
-    λ s. some_used net (λ k. eqb k s) c.rows-row-items.result.now c.used.result.now n (legal-net c.args.region.now.network.now) l c.rows-row-items.ensures.value c.used.ensures.value in
+    listed_used net c.rows-row-items.result.now c.used.result.now n (legal-net c.args.region.now.network.now) l c.rows-row-items.ensures.value c.used.ensures.value in
     handed-on _ before _ c.in_err-enter_all.field-0.0 c.from_residual.result
     (full-more (λ s. out s && listed c.used.result.now s) (λ s. out s && feeds net m (nodes net) s) before mid _
     (λ s h. guard-part (listed mid s) (listed before s) (out s) n (nodes net) (p s) (omega arith) (c.loop-n.invariant s) h)

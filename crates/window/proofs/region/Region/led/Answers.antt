@@ -40,7 +40,7 @@ loop-n-preserved c =
     let here : c.is_led.result ≡ r a =
     c.is_led.ensures ∙ ap (λ b. b && (eqb n t || some_in v c.used.result.now)) (c.has.ensures ∙ ap m k)
     ∙ ap (λ b. m a && (b || some_in v c.used.result.now)) (eqb-add net.inputs n t)
-    ∙ ap (λ b. m a && (eqb a T || b)) (some_used net v c.rows-row-items.result.now c.used.result.now n (legal-net c.args.self.now.network.now) l c.rows-row-items.ensures.value c.used.ensures.value)
+    ∙ ap (λ b. m a && (eqb a T || b)) (some_used net c.rows-row-items.result.now c.used.result.now n (legal-net c.args.self.now.network.now) l c.rows-row-items.ensures.value c.used.ensures.value v)
     ∙ reach-local m T a (row_at net n) v r (λ i q. c.loop-n.invariant.0 (fanin (row_at net n) i) (low n l i q))
     ∙ sym ((reach-holds net m T low).node n l) in
     elim c.if-is_led.branch [

@@ -1,9 +1,9 @@
-use Rattle.std.proofs.Common.{◌<◌, ◌≤◌, ◌||◌, length, eqb, ap, ◌∙◌, arith}
+use Rattle.std.proofs.Common.{◌<◌, ◌≤◌, ◌||◌, length, ap, ◌∙◌, arith}
 use Rattle.std.proofs.lemmas.List.{length-take-le, get_or-take}
 use Rattle.network.specs.Rows.{no_signal}
 use Rattle.network.specs.declared.row.Signal.{Signal}
 use Rattle.window.specs.Sets.{has}
-use Rattle.window.proofs.Used.{some-used}
+use Rattle.window.proofs.Used.{listed-used}
 use Rattle.window.proofs.set.SignalSet.insert_fanins.Goals as goal
 
 pub insert_all-requires : goal.insert_all-requires
@@ -15,4 +15,4 @@ insert_all-requires c = λ i l.
 pub returns : goal.returns
 returns c = λ s.
     let few : c.args.row.now.count ≤ length c.args.row.now.fanins = omega arith in
-    c.insert_all.ensures s ∙ ap (λ b. has c.args.self.now s || b) (some-used (λ k. eqb k s) c.args.row.now few)
+    c.insert_all.ensures s ∙ ap (λ b. has c.args.self.now s || b) (listed-used c.args.row.now s few)
