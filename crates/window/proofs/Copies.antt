@@ -1,6 +1,6 @@
 -- The extracted network, one row or one root more.
-use Rattle.std.proofs.Common.{◌≡◌, ℕ, ◌+◌, ◌-◌, ◌<◌, ◌≤◌, Bool, true, false, List, [], ◌∷◌, ◌++◌, map, length, get_or, sym, refl, ap, ◌∙◌, subst, ⊎_elim, add-one, arith}
-use Rattle.std.proofs.lemmas.List.{length-map, get_or-map}
+use Rattle.std.proofs.Common.{◌≡◌, ℕ, ◌+◌, ◌-◌, ◌<◌, ◌≤◌, Bool, true, false, [], ◌∷◌, ◌++◌, map, length, get_or, sym, refl, ap, ◌∙◌, subst, ⊎_elim, add-one, arith}
+use Rattle.std.proofs.lemmas.List.{length-map, get_or-map, map_push, nil_from_length}
 use Rattle.std.proofs.lemmas.Bool.{cases_Bool, cases_lt, both_ways, and_parts, or_left, or_right}
 use Rattle.network.specs.Limits.{max_nodes}
 use Rattle.network.specs.Rows.{fanin, no_signal, Legal}
@@ -22,14 +22,6 @@ use Rattle.window.specs.Parts.{rows_to, roots_to}
 use Rattle.window.proofs.Fanins.{fanins-are, row_is}
 use Rattle.window.proofs.Numbers.{none_below}
 
-map_push : {A B : Type 0} (f : A → B) (xs : List A) (x : A) → map f (xs ++ (x ∷ [])) ≡ map f xs ++ (f x ∷ [])
-map_push f [] x = refl
-map_push {B = B} f (y ∷ ys) x = ap (λ (zs : List B). f y ∷ zs) (map_push f ys x)
-
-empty_of : {A : Type 0} (xs : List A) → length xs ≡ 0 → xs ≡ []
-empty_of [] e = refl
-empty_of (x ∷ xs) e = absurd (omega arith)
-
 -- numbers that are equal at the fanins
 pub renumber-same : (f g : ℕ → ℕ) (r : Row) → r.count ≤ 8 → ((i : ℕ) → i < r.count → f (fanin r i) ≡ g (fanin r i)) → renumber f r ≡ renumber g r
 renumber-same f g r few h =
@@ -48,7 +40,7 @@ module _ (net : Net) (m : ℕ → Bool) where
   unfolding row_of
   rows_none above =
       let e : nodes (rows_to net m (net.inputs + 0)) ≡ 0 = rows-count (net.inputs + 0) ∙ none_below m net.inputs above in
-      let e' : (rows_to net m (net.inputs + 0)).rows ≡ [] = empty_of _ e in
+      let e' : (rows_to net m (net.inputs + 0)).rows ≡ [] = nil_from_length _ e in
       λ i. record { inputs = length (leaves_of net m); rows = sym e' i; outputs = [] }
 
   pub rows_more : (n : ℕ) → m (net.inputs + n) ≡ true → with_row (rows_to net m (net.inputs + n)) (renumber (new_of net m) (row_at net n)) ≡ rows_to net m (net.inputs + (n + 1))

@@ -1,6 +1,7 @@
 -- What a roll of leaves lists.
 use Rattle.std.proofs.Common.{◌≡◌, ℕ, suc, ◌+◌, ◌<◌, ◌≤◌, Bool, true, false, not, ◌&&◌, ◌||◌, eqb, List, [], ◌∷◌, map, length, get_or, take, Ok, Err, IsErrAnd, MatchResult, Result, sym, refl, ap, ◌∙◌, inl, inr, ◌⊎◌, ⊎_elim, arith}
 use mathlib.Core.Path.{subst⁻¹}
+use Rattle.std.proofs.Math.Bool.{or-false}
 use Rattle.std.specs.List.{ContainsAt as Has}
 use Rattle.std.proofs.lemmas.List.{get_or_default, length-take-le, length-map, get_or-map}
 use Rattle.std.proofs.lemmas.Bool.{cases_Bool, and_parts, and_from, or_cases, or_left, or_right, eqb-true, eq-eqb, ne_eqb, ltb-true, not_from_false}
@@ -39,10 +40,6 @@ pub same_truth : (a b : Bool) → (a ≡ true → b ≡ true) → (b ≡ true �
 same_truth true b f g = sym (f refl)
 same_truth false true f g = g refl
 same_truth false false f g = refl
-
-or_no : (a b : Bool) → b ≡ false → (a || b) ≡ a
-or_no true b e = refl
-or_no false b e = e
 
 pub same-signal : (a b : Signal) → a.0 ≡ b.0 → a ≡ b
 same-signal a b e = λ i. record { 0 = e i }
@@ -219,7 +216,7 @@ module _ (net : Net) (m : ℕ → Bool) (low : Lowers net) where
       let more : ℕ → Bool = λ s. listed xs s || eqb z s in
       let c : count_below (size net) more ≡ suc (count_below (size net) (listed xs)) =
       count-more (size net) (listed xs) more z (leaf-small z v.missing.1) v.missing.2 (or_right (listed xs z) (eqb z z) (eq-eqb z z refl))
-      (λ b ne. or_no (listed xs b) (eqb z b) (ne_eqb z b (λ e. ne (sym e)))) in
+      (λ b ne. ap (λ c. listed xs b || c) (ne_eqb z b (λ e. ne (sym e))) ∙ or-false (listed xs b)) in
       let w : count_below (size net) more ≤ count_below (size net) (is_leaf net m) =
       count-within (size net) more (is_leaf net m) (λ a _ h. ⊎_elim (λ g. leaf a g) (λ g. ap (is_leaf net m) (sym (eqb-true z a g)) ∙ v.missing.1) (or_cases (listed xs a) (eqb z a) h)) in
       let f = v.full in

@@ -1,32 +1,15 @@
 -- Flags that are set one by one.
-use Rattle.std.proofs.Common.{◌≡◌, ℕ, zero, suc, ◌+◌, ◌<◌, ◌≤◌, Bool, true, false, ◌&&◌, ◌||◌, eqb, List, length, get_or, set, take, sym, refl, ap, ◌∙◌, ⊎_elim, add-one, arith}
+use Rattle.std.proofs.Common.{◌≡◌, ℕ, zero, suc, ◌+◌, ◌<◌, ◌≤◌, Bool, true, false, ◌&&◌, ◌||◌, List, length, get_or, take, sym, refl, ap, ◌∙◌, ⊎_elim, add-one, arith}
 use Rattle.std.specs.List.{list_any}
-use Rattle.std.proofs.lemmas.List.{get_or-set_same, get_or-set_other, take_all}
+use Rattle.std.proofs.Math.Bool.{or-false, or_comm, or_assoc}
+use Rattle.std.proofs.lemmas.List.{take_all}
 use Rattle.std.proofs.lemmas.List.Folds.{list_any_more}
-use Rattle.std.proofs.lemmas.Bool.{cases_eq, eq-eqb, ne_eqb, or_cases, or_left, or_right, and_parts, and_from}
+use Rattle.std.proofs.lemmas.Bool.{or_cases, or_left, or_right, and_parts, and_from}
 use Rattle.context.proofs.Any.{any-find, any_some}
 use Rattle.context.specs.Care.{any_below}
 
-pub or_no : (b : Bool) → b ≡ (b || false)
-or_no true = refl
-or_no false = refl
-
-or_yes : (b : Bool) → true ≡ (b || true)
-or_yes true = refl
-or_yes false = refl
-
-pub shuffle : (e a q : Bool) → ((e || a) || q) ≡ (e || (q || a))
-shuffle true a q = refl
-shuffle false true true = refl
-shuffle false true false = refl
-shuffle false false true = refl
-shuffle false false false = refl
-
-or_swap : (a b : Bool) → (a || b) ≡ (b || a)
-or_swap true true = refl
-or_swap true false = refl
-or_swap false true = refl
-or_swap false false = refl
+shuffle : (e a q : Bool) → ((e || a) || q) ≡ (e || (q || a))
+shuffle e a q = or_assoc e a q ∙ ap (λ b. e || b) (or_comm a q)
 
 any-none : (p : ℕ → Bool) → false ≡ any_below 0 p
 unfolding any_below
@@ -34,7 +17,7 @@ any-none p = refl
 
 pub any-zero : (b : Bool) (p : ℕ → Bool) → b ≡ (b || any_below 0 p)
 unfolding any_below
-any-zero b p = or_no b
+any-zero b p = sym (or-false b)
 
 pub any_next : (n : ℕ) (p : ℕ → Bool) → any_below (n + 1) p ≡ (p n || any_below n p)
 unfolding any_below
@@ -45,37 +28,18 @@ pub list_any-take : {X : Type 0} (p : X → Bool) (xs : List X) (d : X) (n : ℕ
 list_any-take p xs d zero l = any-none (λ i. p (get_or xs i d))
 list_any-take p xs d (suc n) l =
     let q : n < length xs = omega (arith, add-one n) in
-    ap (λ k. list_any p (take k xs)) (sym (add-one n)) ∙ list_any_more p xs n d q ∙ or_swap (list_any p (take n xs)) (p (get_or xs n d))
+    ap (λ k. list_any p (take k xs)) (sym (add-one n)) ∙ list_any_more p xs n d q ∙ or_comm (list_any p (take n xs)) (p (get_or xs n d))
     ∙ ap (λ b. p (get_or xs n d) || b) (list_any-take p xs d n (omega arith)) ∙ sym (any_next n (λ i. p (get_or xs i d))) ∙ ap (λ k. any_below k (λ i. p (get_or xs i d))) (add-one n)
 
 pub list_any-below : {X : Type 0} (p : X → Bool) (xs : List X) (d : X) → list_any p xs ≡ any_below (length xs) (λ i. p (get_or xs i d))
 list_any-below p xs d = ap (list_any p) (sym (take_all (length xs) xs (omega arith))) ∙ list_any-take p xs d (length xs) (omega arith)
-
-pub mark-one : (xs : List Bool) (f s : ℕ) → f < length xs → get_or (set xs f true) s false ≡ (get_or xs s false || eqb f s)
-mark-one xs f s l =
-    ⊎_elim
-    (λ e. ap (λ n. get_or (set xs f true) n false) e ∙ get_or-set_same xs f true false l ∙ or_yes (get_or xs s false) ∙ ap (λ b. get_or xs s false || b) (sym (eq-eqb f s (sym e))))
-    (λ ne. get_or-set_other xs f s true false ne ∙ or_no (get_or xs s false) ∙ ap (λ b. get_or xs s false || b) (sym (ne_eqb f s (λ e. ne (sym e)))))
-    (cases_eq s f)
 
 -- one mark more: q is the new one's test
 pub mark-next : (v e q : Bool) (n : ℕ) (p : ℕ → Bool) → v ≡ (e || any_below n p) → p n ≡ q → (v || q) ≡ (e || any_below (n + 1) p)
 mark-next v e q n p h g = ap (λ b. b || q) h ∙ shuffle e (any_below n p) q ∙ ap (λ b. e || (b || any_below n p)) (sym g) ∙ ap (λ b. e || b) (sym (any_next n p))
 
 pub mark-skip : (v e : Bool) (n : ℕ) (p : ℕ → Bool) → v ≡ (e || any_below n p) → p n ≡ false → v ≡ (e || any_below (n + 1) p)
-mark-skip v e n p h g = or_no v ∙ mark-next v e false n p h g
-
-pub and_yes : (a b : Bool) → b ≡ true → (a && b) ≡ a
-and_yes true b h = h
-and_yes false b h = refl
-
-pub and_no : (a b : Bool) → b ≡ false → (a && b) ≡ false
-and_no true b h = h
-and_no false b h = refl
-
-pub and-true : (a : Bool) → (a && true) ≡ a
-and-true true = refl
-and-true false = refl
+mark-skip v e n p h g = sym (or-false v) ∙ mark-next v e false n p h g
 
 -- marks that a guard g lets through
 guarded : (e g a q : Bool) → ((e || (g && a)) || (g && q)) ≡ (e || (g && (q || a)))

@@ -1,13 +1,13 @@
 -- Nodes that are marked by a test.
 use Rattle.std.proofs.Common.{◌≡◌, ℕ, ◌+◌, ◌-◌, ◌<◌, ◌≤◌, Bool, true, false, ◌&&◌, ◌||◌, eqb, sym, refl, ap, ◌∙◌, ⊎_elim, arith}
 use mathlib.Core.Path.{subst⁻¹}
+use Rattle.std.proofs.Math.Bool.{or-false}
 use Rattle.std.proofs.lemmas.Bool.{cases_eq, cases_lt, cases_Bool, both_ways, eq-eqb, ne_eqb}
 use Rattle.network.specs.Nets.{Net, nodes, size}
 use Rattle.context.specs.Care.{any_below}
 use Rattle.context.specs.Levels.{whole}
 use Rattle.context.proofs.Any.{any_same}
 use Rattle.context.proofs.Levels.{whole-exact}
-use Rattle.window.proofs.Marks.{or_no}
 use Rattle.window.proofs.Steps.{common-any}
 
 -- of the first n nodes those are marked that had a mark or have passed: P says what the test may answer
@@ -21,7 +21,7 @@ module _ (net : Net) (P : ℕ → Bool → Type 0) (X : ℕ → Bool) where
   none-passed = record { passed = λ k l. absurd (omega arith); inputs = λ s l. refl; later = λ s l. refl }
 
   other : (Y Y' : ℕ → Bool) (k s : ℕ) → ((s : ℕ) → Y' s ≡ (Y s || eqb k s)) → (k ≡ s → ⊥) → Y' s ≡ Y s
-  other Y Y' k s is ne = is s ∙ ap (λ b. Y s || b) (ne_eqb k s ne) ∙ sym (or_no (Y s))
+  other Y Y' k s is ne = is s ∙ ap (λ b. Y s || b) (ne_eqb k s ne) ∙ or-false (Y s)
 
   -- node n passes
   pub one-passed : (Y Y' : ℕ → Bool) (n k : ℕ) → PartWay net P X Y n → P n true → k ≡ net.inputs + n → ((s : ℕ) → Y' s ≡ (Y s || eqb k s)) → PartWay net P X Y' (n + 1)
@@ -43,7 +43,7 @@ module _ (net : Net) (P : ℕ → Bool → Type 0) (X : ℕ → Bool) where
   pub one-failed : (Y : ℕ → Bool) (n : ℕ) → PartWay net P X Y n → P n false → PartWay net P X Y (n + 1)
   one-failed Y n p y = record {
     passed = λ i l. ⊎_elim
-        (λ g. subst⁻¹ (λ j. (b : Bool) × P j b × (Y (net.inputs + j) ≡ (X (net.inputs + j) || b))) g (false, y, p.later (net.inputs + n) (omega arith) ∙ or_no (X (net.inputs + n))))
+        (λ g. subst⁻¹ (λ j. (b : Bool) × P j b × (Y (net.inputs + j) ≡ (X (net.inputs + j) || b))) g (false, y, p.later (net.inputs + n) (omega arith) ∙ sym (or-false (X (net.inputs + n)))))
         (λ ne. p.passed i (omega arith))
         (cases_eq i n);
     inputs = p.inputs;
@@ -69,7 +69,7 @@ module _ (net : Net) (X Y : ℕ → Bool) (others : (s : ℕ) → whole net s �
       let n : ℕ = s - net.inputs in
       let e : net.inputs + n ≡ s = omega arith in
       sym (ap Y e) ∙ h n (omega arith) ∙ ap (λ k. X k || q k) e ∙ ap (λ b. X s || (b && q s)) (sym y))
-      (λ y. others s y ∙ or_no (X s) ∙ ap (λ b. X s || (b && q s)) (sym y))
+      (λ y. others s y ∙ sym (or-false (X s)) ∙ ap (λ b. X s || (b && q s)) (sym y))
       (cases_Bool (whole net s))
 
   -- by the numbers of the nodes

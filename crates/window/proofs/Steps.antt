@@ -1,15 +1,14 @@
 -- One level more.
-use Rattle.std.proofs.Common.{◌≡◌, ℕ, ◌+◌, ◌-◌, ◌<◌, Bool, true, false, ◌&&◌, ◌||◌, eqb, get_or, replicate, sym, refl, ap, ◌∙◌, ⊎_elim, add-one, arith}
+use Rattle.std.proofs.Common.{◌≡◌, ℕ, ◌+◌, ◌-◌, ◌<◌, Bool, false, ◌&&◌, ◌||◌, eqb, get_or, replicate, sym, refl, ap, ◌∙◌, ⊎_elim, add-one, arith}
 use Rattle.std.proofs.lemmas.List.{get_or-replicate, get_or_past, length-replicate}
 use Rattle.std.proofs.lemmas.Bool.{cases_lt, cases_Bool, both_ways, and_parts, and_from, eqb-true, eq-eqb}
 use Rattle.network.specs.Nets.{Net, nodes}
 use Rattle.context.specs.Levels.{into, outof, whole}
 use Rattle.context.specs.Care.{any_below}
-use Rattle.context.proofs.Any.{any-find, any_none, any_same}
+use Rattle.context.proofs.Any.{any-find, any_none}
 use Rattle.context.proofs.Levels.{whole-exact}
 use Rattle.window.specs.Sets.{feeds, fed}
 use Rattle.window.proofs.Functions.{same_set}
-use Rattle.window.proofs.Marks.{and-true}
 
 -- no flag is set
 pub none-set : (n s : ℕ) → get_or (replicate n false) s false ≡ false
@@ -62,8 +61,3 @@ common-any net q s =
     absurd (both_ways (p j) (any_none (nodes net) p h j l) (and_from (eqb (net.inputs + j) s) (q (net.inputs + j)) (eq-eqb _ _ e) (ap q e ∙ b.1))))
     (λ g. g) (cases_Bool (whole net s && q s))))
     (cases_Bool (any_below (nodes net) p))
-
-pub whole-any : (net : Net) (s : ℕ) → any_below (nodes net) (λ j. eqb (net.inputs + j) s) ≡ whole net s
-whole-any net s =
-    any_same (nodes net) (λ j. eqb (net.inputs + j) s) (λ j. eqb (net.inputs + j) s && true) (λ j _. sym (and-true (eqb (net.inputs + j) s)))
-    ∙ common-any net (λ _. true) s ∙ and-true (whole net s)

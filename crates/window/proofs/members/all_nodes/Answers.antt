@@ -1,8 +1,8 @@
 use Rattle.std.proofs.Common.{rules, ◌≡◌, ◌+◌, true, ◌&&◌, ◌||◌, ap, ◌∙◌}
+use Rattle.std.proofs.Math.Bool.{and-true}
 use Rattle.network.specs.Parts.{net_of}
 use Rattle.context.specs.Levels.{whole}
 use Rattle.window.specs.Sets.{has}
-use Rattle.window.proofs.Marks.{and-true}
 use Rattle.window.proofs.NodeMarks.{nodes-marked}
 use Rattle.window.proofs.members.all_nodes.Goals as goal
 
