@@ -1,5 +1,5 @@
 -- A context that was built, and what holds of it.
-use Rattle.std.proofs.Common.{◌≡◌, ℕ, ◌+◌, ◌<◌, ◌≤◌, Bool, true, false, ◌&&◌, cond, eqb, leb, List, length, get_or, IsErrAnd, Some, None, Ok, Err, vec_items, Decides, Option, Result, sym, ap, ◌∙◌, ⊎_elim, arith, MatchResult}
+use Rattle.std.proofs.Common.{◌≡◌, ℕ, ◌+◌, ◌<◌, ◌≤◌, Bool, true, false, ◌&&◌, cond, eqb, leb, List, length, get_or, Some, None, Ok, Err, vec_items, Decides, Option, Result, sym, ap, ◌∙◌, ⊎_elim, arith}
 use mathlib.Core.Path.{subst⁻¹}
 use Rattle.std.proofs.lemmas.List.{length-map, get_or-map, get_or_past}
 use Rattle.std.proofs.lemmas.Bool.{cases_lt, or_left, cond-true, cond-false, lt-leb, le-leb, lt-ltb, le-ltb}
@@ -22,7 +22,7 @@ use Rattle.window.specs.Limits.{max_leaves}
 use Rattle.window.specs.Refusals.{number_of}
 use Rattle.window.specs.Scopes.{too_high, member_of}
 use Rattle.window.specs.Sets.{has}
-use Rattle.window.specs.Entries.{leaf_signals, NoLeaves}
+use Rattle.window.specs.Entries.{leaf_signals}
 use Rattle.window.specs.Numbers.{Numbers}
 use Rattle.window.specs.Contexts.{too_many, refusal_of, IsContext, Gathers, Builds}
 use Rattle.window.specs.Laws.{ByPaths, OfContext, leaf_bits, SameValues, SameInverted, FreeExactly, FreeSoundly, FreeInWhole, OwnFunction, Safe, Harmful}
@@ -58,17 +58,6 @@ scope-replaced : (net : Net) (t : ℕ) (f : Function) (scope : Scope) → t < no
 scope-replaced net t f Whole l = same_set (whole-replaced net t f l)
 scope-replaced net t f (Window p q) l = same_set (windowed-replaced net t f l (net.inputs + t) p q)
 
--- what assembling answers, once the leaves are found
-pub gathered : (net : Net) (m : ℕ → Bool) (t : ℕ) (r : Result Context ContextError) → length (leaves_of net m) ≤ max_leaves →
-    MatchResult r (IsContext net m t) (λ e. e ≡ NoMemory) → Gathers net m t r
-gathered net m t (Ok c) few h = (few, h)
-gathered net m t (Err e) few h = subst⁻¹ (NoLeaves net m) h few
-
--- an error that is handed on
-pub handed : (net : Net) (m : ℕ → Bool) (t : ℕ) (r : Result Context ContextError) (e : ContextError) → NoLeaves net m e → IsErrAnd r (λ e'. e' ≡ e) → Gathers net m t r
-handed net m t (Ok c) e n h = absurd h
-handed net m t (Err e') e n h = subst⁻¹ (NoLeaves net m) h n
-
 -- there is the node, and no level is too high
 module _ (net : Net) (t : ℕ) (scope : Scope) (l : t < nodes net) (low : too_high scope ≡ false) where
   rest : refusal_of net t scope ≡ cond (too_many net (member_of net t scope)) (number_of Leaves) None
@@ -83,11 +72,6 @@ module _ (net : Net) (t : ℕ) (scope : Scope) (l : t < nodes net) (low : too_hi
   judged (Err Level) h = absurd h
   judged (Err Leaves) h = rest ∙ cond-true (too_many net (member_of net t scope)) _ _ (lt-ltb _ _ h)
   judged (Err NoMemory) h = accepted h
-
--- an error that is handed on
-pub refused-so : (net : Net) (t : ℕ) (scope : Scope) (r : Result Context ContextError) (e : ContextError) → refusal_of net t scope ≡ number_of e → IsErrAnd r (λ e'. e' ≡ e) → Builds net t scope r
-refused-so net t scope (Ok c) e n h = absurd h
-refused-so net t scope (Err e') e n h = subst⁻¹ (λ v. refusal_of net t scope ≡ number_of v) h n
 
 -- leaf values by the context's own list
 leaf-same : (net : Net) (m : ℕ → Bool) (xs : List Signal) (u : ℕ → Bool) → xs ≡ leaf_signals net m → (i : ℕ) → u (get_or xs i no_signal).0 ≡ leaf_values net m u i

@@ -1,7 +1,7 @@
 -- The fanins of a renumbered row.
-use Rattle.std.proofs.Common.{◌≡◌, ℕ, ◌+◌, ◌<◌, ◌≤◌, List, length, get_or, set, sym, ap, ◌∙◌, ⊎_elim, arith}
-use Rattle.std.proofs.lemmas.List.{get_or-set_same, get_or-set_other, ext_get_or}
-use Rattle.std.proofs.lemmas.Bool.{cases_lt, cases_eq}
+use Rattle.std.proofs.Common.{◌≡◌, ℕ, ◌<◌, ◌≤◌, List, length, get_or, sym, ◌∙◌, ⊎_elim, arith}
+use Rattle.std.proofs.lemmas.List.{ext_get_or}
+use Rattle.std.proofs.lemmas.Bool.{cases_lt}
 use Rattle.network.specs.Limits.{max_fanins}
 use Rattle.network.specs.Rows.{fanin, no_signal}
 use Rattle.network.specs.declared.row.Signal.{Signal}
@@ -9,14 +9,6 @@ use Rattle.network.specs.declared.row.Row.{Row}
 use Rattle.context.specs.Extracts.{renumber}
 use Rattle.context.proofs.Made.{renumber-used, renumber-unused, renumber-places}
 use Rattle.window.proofs.Entries.{same-signal}
-
--- one fanin more
-pub fanin-more : (fs : List Signal) (i : ℕ) (v : Signal) (g : ℕ → ℕ) → i < length fs → ((k : ℕ) → k < i → (get_or fs k no_signal).0 ≡ g k) → v.0 ≡ g i → (k : ℕ) → k < i + 1 → (get_or (set fs i v) k no_signal).0 ≡ g k
-fanin-more fs i v g l below here k h =
-    ⊎_elim
-    (λ e. ap (λ n. (get_or (set fs i v) n no_signal).0) e ∙ ap (λ (s : Signal). s.0) (get_or-set_same fs i v no_signal l) ∙ here ∙ ap g (sym e))
-    (λ ne. ap (λ (s : Signal). s.0) (get_or-set_other fs i k v no_signal ne) ∙ below k (omega arith))
-    (cases_eq k i)
 
 pub fanins-are : (new : ℕ → ℕ) (r : Row) (fs : List Signal) (i : ℕ) → r.count ≤ max_fanins → i ≡ r.count → length fs ≡ max_fanins →
     ((k : ℕ) → k < i → (get_or fs k no_signal).0 ≡ new (fanin r k)) → ((k : ℕ) → i ≤ k → (get_or fs k no_signal).0 ≡ 0) → fs ≡ (renumber new r).fanins

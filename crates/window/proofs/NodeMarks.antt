@@ -1,9 +1,9 @@
 -- Nodes that are marked by a test.
-use Rattle.std.proofs.Common.{◌≡◌, ℕ, ◌+◌, ◌-◌, ◌<◌, ◌≤◌, Bool, true, false, ◌&&◌, ◌||◌, eqb, sym, refl, ap, ◌∙◌, ⊎_elim, arith}
+use Rattle.std.proofs.Common.{◌≡◌, ℕ, ◌+◌, ◌-◌, ◌<◌, ◌≤◌, Bool, true, false, ◌&&◌, ◌||◌, eqb, sym, ap, ◌∙◌, ⊎_elim, arith}
 use mathlib.Core.Path.{subst⁻¹}
 use Rattle.std.proofs.Math.Bool.{or-false}
-use Rattle.std.proofs.lemmas.Bool.{cases_eq, cases_lt, cases_Bool, both_ways, eq-eqb, ne_eqb}
-use Rattle.network.specs.Nets.{Net, nodes, size}
+use Rattle.std.proofs.lemmas.Bool.{cases_eq, cases_Bool, eq-eqb, ne_eqb}
+use Rattle.network.specs.Nets.{Net, nodes}
 use Rattle.context.specs.Care.{any_below}
 use Rattle.context.specs.Levels.{whole}
 use Rattle.context.proofs.Any.{any_same}
@@ -17,9 +17,6 @@ pub record PartWay (net : Net) (P : ℕ → Bool → Type 0) (X Y : ℕ → Bool
   pub later : (s : ℕ) → net.inputs + n ≤ s → Y s ≡ X s
 
 module _ (net : Net) (P : ℕ → Bool → Type 0) (X : ℕ → Bool) where
-  pub none-passed : PartWay net P X X 0
-  none-passed = record { passed = λ k l. absurd (omega arith); inputs = λ s l. refl; later = λ s l. refl }
-
   other : (Y Y' : ℕ → Bool) (k s : ℕ) → ((s : ℕ) → Y' s ≡ (Y s || eqb k s)) → (k ≡ s → ⊥) → Y' s ≡ Y s
   other Y Y' k s is ne = is s ∙ ap (λ b. Y s || b) (ne_eqb k s ne) ∙ or-false (Y s)
 
@@ -49,13 +46,6 @@ module _ (net : Net) (P : ℕ → Bool → Type 0) (X : ℕ → Bool) where
     inputs = p.inputs;
     later = λ s l. p.later s (omega arith);
   }
-
-  -- all nodes were tested
-  pub others-stay : (Y : ℕ → Bool) (n : ℕ) → PartWay net P X Y n → n ≡ nodes net → (s : ℕ) → whole net s ≡ false → Y s ≡ X s
-  others-stay Y n p e s h =
-      ⊎_elim (λ l. p.inputs s l)
-      (λ l. ⊎_elim (λ k. absurd (both_ways (whole net s) h ((whole-exact net s).1 (l, k)))) (λ k. p.later s (omega arith)) (cases_lt s (size net)))
-      (cases_lt s net.inputs)
 
 module _ (net : Net) (X Y : ℕ → Bool) (others : (s : ℕ) → whole net s ≡ false → Y s ≡ X s) where
   -- those nodes are marked that have q

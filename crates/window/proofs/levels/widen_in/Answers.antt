@@ -1,10 +1,10 @@
-use Rattle.std.proofs.Common.{◌≡◌, ℕ, ◌+◌, Bool, ◌&&◌, ◌||◌, sym, ap, List, length, get_or, ◌∙◌, arith}
+use Rattle.std.proofs.Common.{◌≡◌, ℕ, ◌+◌, Bool, ◌&&◌, ◌||◌, sym, ap, List, get_or, ◌∙◌}
 use Rattle.network.specs.Rows.{blank}
-use Rattle.network.specs.Nets.{nodes, row_at}
+use Rattle.network.specs.Nets.{row_at}
 use Rattle.network.specs.declared.row.Row.{Row}
 use Rattle.network.specs.Parts.{net_of}
 use Rattle.context.specs.Levels.{is_fanin}
-use Rattle.window.specs.Sets.{has, feeds}
+use Rattle.window.specs.Sets.{has}
 use Rattle.window.specs.declared.set.SignalSet.{SignalSet}
 use Rattle.window.proofs.Marks.{any-zero, mark-next, mark-skip}
 use Rattle.window.proofs.levels.widen_in.Goals as goal
@@ -32,8 +32,3 @@ loop-n-preserved c = λ s.
           ap (λ (xs : SignalSet). has xs s) w.wider-is ∙ mark-skip v e n p (c.loop-n.invariant s) (ap (λ b. b && q) (here ∙ w.if-has.false))
     ]
 
-pub returns : goal.returns
-returns c = λ s.
-    let net = net_of c.args.network.now in
-    let e : c.loop-n.n ≡ nodes net = omega (arith, ap length c.rows-row-items.ensures.value) in
-    c.loop-n.invariant s ∙ ap (λ n. has c.args.marks s || feeds net (has c.args.from.now) n s) e

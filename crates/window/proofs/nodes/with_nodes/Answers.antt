@@ -1,14 +1,10 @@
-use Rattle.std.proofs.Common.{◌≡◌, ◌+◌, Bool, sym, subst, arith}
-use Rattle.network.specs.Nets.{nodes}
+use Rattle.std.proofs.Common.{◌+◌, Bool, sym, subst, arith}
 use Rattle.network.specs.Parts.{net_of}
 use Rattle.window.specs.Sets.{has}
 use Rattle.window.specs.declared.set.SignalSet.{SignalSet}
-use Rattle.window.proofs.NodeMarks.{PartWay, none-passed, one-passed, one-failed, others-stay}
+use Rattle.window.proofs.NodeMarks.{PartWay, one-passed, one-failed}
 use Rattle.window.proofs.nodes.with_nodes.Goals as goal
 use Rattle.window.proofs.nodes.with_nodes.Goals.{then-test, else-test}
-
-pub loop-n-init : goal.loop-n-init
-loop-n-init g c = none-passed _ _ _
 
 pub loop-n-preserved : goal.loop-n-preserved
 loop-n-preserved g c =
@@ -20,11 +16,5 @@ loop-n-preserved g c =
       | else-test w ↦ subst over (sym w.wider-is) (one-failed net _ _ _ c.loop-n.n c.loop-n.invariant (subst answer w.if-test.false c.test.ensures))
     ]
 
-pub returns : goal.returns
-returns g c =
-    let net = net_of c.args.network.now in
-    let e : c.loop-n.n ≡ nodes net = omega (arith, c.node_count-n-end.ensures.value) in
-    record {
-      nodes = λ n l. c.loop-n.invariant.passed n (omega arith);
-      others = others-stay _ _ _ _ _ c.loop-n.invariant e;
-    }
+pub returns-clause-nodes : goal.returns-clause-nodes
+returns-clause-nodes g c = λ n l. c.loop-n.invariant.passed n (omega (arith, c.node_count-n-end.ensures.value))

@@ -5,11 +5,8 @@ use Rattle.window.specs.Sets.{has}
 use Rattle.window.specs.Scopes.{member_of}
 use Rattle.window.specs.Contexts.{Gathers}
 use Rattle.window.proofs.Functions.{same_set}
-use Rattle.window.proofs.Built.{judged, refused-so}
+use Rattle.window.proofs.Built.{judged}
 use Rattle.window.proofs.extracted.build.judge.Goals as goal
-
-pub returns-in_err-around : goal.returns-in_err-around
-returns-in_err-around c = refused-so (net_of c.args.network.now) c.args.node c.args.scope c.from_residual.result c.in_err-around.field-0.0 c.in_err-around.ensures c.from_residual.ensures.1
 
 pub returns : goal.returns
 returns c =

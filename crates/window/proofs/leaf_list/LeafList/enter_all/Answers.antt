@@ -1,4 +1,4 @@
-use Rattle.std.proofs.Common.{◌≡◌, ℕ, Bool, not, ◌&&◌, ◌||◌, eqb, length, get_or, refl, ap, ◌∙◌, arith}
+use Rattle.std.proofs.Common.{ℕ, Bool, not, ◌&&◌, eqb, length, get_or, refl, ◌∙◌, arith}
 use Rattle.network.specs.Rows.{no_signal}
 use Rattle.context.specs.Care.{any_below}
 use Rattle.window.specs.Sets.{has}
@@ -17,12 +17,6 @@ loop-signal-preserved c = λ s.
     let i : ℕ = c.loop-signal.signal-index in
     c.in_ok-enter.ensures s
     ∙ guard-next (listed (entries_of c.loop-signal.self) s) (listed (entries_of c.args.self.now) s) (not (has c.args.members.now s)) (p i) i p (c.loop-signal.invariant s) refl
-
-pub returns : goal.returns
-returns c = λ s.
-    let e : c.loop-signal.signal-index ≡ length c.args.signals.now = omega arith in
-    c.loop-signal.invariant s
-    ∙ ap (λ n. listed (entries_of c.args.self.now) s || (not (has c.args.members.now s) && any_below n (λ k. eqb (get_or c.args.signals.now k no_signal).0 s))) e
 
 pub returns-in_err-enter : goal.returns-in_err-enter
 returns-in_err-enter c =

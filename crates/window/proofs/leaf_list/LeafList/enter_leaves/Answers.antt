@@ -39,13 +39,6 @@ loop-n-preserved c = λ s.
           ap (λ (r : LeafList). listed (entries_of r) s) w.self-is ∙ guard-skip v e (not (m s)) n p (c.loop-n.invariant s) (ap (λ b. b && q) (here ∙ w.if-has.false))
     ]
 
-pub returns : goal.returns
-returns c = λ s.
-    let net = net_of c.args.region.now.network.now in
-    let m : ℕ → Bool = has c.args.region.now.members in
-    let e : c.loop-n.n ≡ nodes net = omega (arith, ap length c.rows-row-items.ensures.value) in
-    c.loop-n.invariant s ∙ ap (λ n. listed (entries_of c.args.self.now) s || (not (m s) && feeds net m n s)) e
-
 pub returns-in_err-enter_all : goal.returns-in_err-enter_all
 returns-in_err-enter_all c =
     let net = net_of c.args.region.now.network.now in

@@ -1,24 +1,13 @@
-use Rattle.std.proofs.Common.{◌≡◌, ℕ, ◌+◌, ◌<◌, Bool, not, ◌&&◌, ◌||◌, List, length, get_or, ap, ◌∙◌, ap₂, arith}
-use Rattle.network.specs.Rows.{no_signal}
+use Rattle.std.proofs.Common.{◌≡◌, ℕ, ◌+◌, Bool, not, ◌&&◌, ◌||◌, List, ap, ◌∙◌, ap₂}
 use Rattle.network.specs.Nets.{nodes, row_at}
 use Rattle.network.specs.Parts.{net_of}
 use Rattle.network.specs.declared.row.Signal.{Signal}
-use Rattle.network.proofs.Nets.{legal-net}
 use Rattle.context.specs.Levels.{is_fanin}
 use Rattle.context.proofs.Any.{any_same}
 use Rattle.context.proofs.Levels.{whole-node}
 use Rattle.window.specs.Sets.{has, feeds}
 use Rattle.window.specs.Lists.{listed}
 use Rattle.window.proofs.region.Region.exposed.Goals as goal
-
-pub insert_all-requires : goal.insert_all-requires
-insert_all-requires c = λ i l.
-    let net = net_of c.args.self.now.network.now in
-    let legal = legal-net c.args.self.now.network.now in
-    let a = legal.few_inputs in
-    let b = legal.few_nodes in
-    let q = legal.exit i (let z : i < length net.outputs = omega (arith, ap length c.outputs.ensures) in z) in
-    omega (arith, ap (λ (xs : List Signal). (get_or xs i no_signal).0) c.outputs.ensures)
 
 pub returns : goal.returns
 returns c = λ s.

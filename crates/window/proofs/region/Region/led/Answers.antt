@@ -52,8 +52,3 @@ loop-n-preserved c =
           (λ s q. ap (λ (xs : SignalSet). has xs s) w.led-is ∙ y.0 s (omega arith), λ s q. ap (λ (xs : SignalSet). has xs s) w.led-is ∙ y.1 s (omega arith))
     ]
 
-pub returns : goal.returns
-returns c = λ s l.
-    let net = net_of c.args.self.now.network.now in
-    let e : c.loop-n.n ≡ nodes net = omega (arith, ap length c.rows-row-items.ensures.value) in
-    c.loop-n.invariant.0 s (omega arith)

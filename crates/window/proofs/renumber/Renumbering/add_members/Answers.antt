@@ -1,6 +1,5 @@
 use Rattle.std.proofs.Common.{◌≡◌, ℕ, ◌+◌, Bool, true, false, sym, refl, ap, ◌∙◌, ⊎_elim, arith}
 use Rattle.std.proofs.lemmas.Bool.{cases_eq, both_ways}
-use Rattle.network.specs.Nets.{nodes}
 use Rattle.network.specs.Parts.{net_of}
 use Rattle.context.specs.Care.{count_below}
 use Rattle.context.proofs.Counts.{count_most}
@@ -71,8 +70,3 @@ overflow_add-next c =
     let g = c.loop-n.invariant.0 in
     omega arith
 
-pub returns : goal.returns
-returns c =
-    let net = net_of c.args.region.now.network.now in
-    let e : c.loop-n.n ≡ nodes net = omega (arith, c.node_count-n-end.ensures.value) in
-    record { members = λ s h. let q = c.args.region.now.inside s h in c.loop-n.invariant.1 s (omega arith) h; others = c.loop-n.invariant.2 }

@@ -1,4 +1,4 @@
-use Rattle.std.proofs.Common.{ℕ, Bool, arith}
+use Rattle.std.proofs.Common.{arith}
 use Rattle.network.specs.Parts.{net_of}
 use Rattle.network.proofs.Nets.{legal-net}
 use Rattle.window.specs.Sets.{has}
@@ -6,14 +6,15 @@ use Rattle.window.specs.Numbers.{new_at}
 use Rattle.window.proofs.Numbers.{leaf-below, leaf-rising, numbers-from}
 use Rattle.window.proofs.renumber.Renumbering.new.Goals as goal
 
-pub of_leaves-numbers-requires : goal.of_leaves-numbers-requires
-of_leaves-numbers-requires c =
-    let net = net_of c.args.region.now.network.now in
-    let m : ℕ → Bool = has c.args.region.now.members in
+pub of_leaves-numbers-requires-clause-small : goal.of_leaves-numbers-requires-clause-small
+of_leaves-numbers-requires-clause-small c = λ i l.
     let legal = legal-net c.args.region.now.network.now in
     let a = legal.few_inputs in
     let b = legal.few_nodes in
-    record { few = c.requires.few; small = λ i l. let q = leaf-below net m c.args.leaves.now c.requires.leaves i l in omega arith; rising = leaf-rising net m c.args.leaves.now c.requires.leaves }
+    omega (arith, leaf-below (net_of c.args.region.now.network.now) (has c.args.region.now.members) c.args.leaves.now c.requires.leaves i l)
+
+pub of_leaves-numbers-requires-clause-rising : goal.of_leaves-numbers-requires-clause-rising
+of_leaves-numbers-requires-clause-rising c = leaf-rising (net_of c.args.region.now.network.now) (has c.args.region.now.members) c.args.leaves.now c.requires.leaves
 
 pub returns : goal.returns
 returns c =

@@ -1,6 +1,5 @@
-use Rattle.std.proofs.Common.{◌≡◌, ℕ, ◌||◌, eqb, length, get_or, refl, ap, ◌∙◌, arith}
+use Rattle.std.proofs.Common.{ℕ, eqb, get_or, refl, ◌∙◌}
 use Rattle.network.specs.Rows.{no_signal}
-use Rattle.context.specs.Care.{any_below}
 use Rattle.window.specs.Sets.{has}
 use Rattle.window.proofs.Marks.{any-zero, mark-next}
 use Rattle.window.proofs.set.SignalSet.insert_all.Goals as goal
@@ -13,7 +12,3 @@ loop-signal-preserved c = λ s.
     let p = λ (m : ℕ). eqb (get_or c.args.signals.now m no_signal).0 s in
     c.insert.ensures s ∙ mark-next (has c.loop-signal.self s) (has c.args.self.now s) (p c.loop-signal.signal-index) c.loop-signal.signal-index p (c.loop-signal.invariant s) refl
 
-pub returns : goal.returns
-returns c = λ s.
-    let e : c.loop-signal.signal-index ≡ length c.args.signals.now = omega arith in
-    c.loop-signal.invariant s ∙ ap (λ n. has c.args.self.now s || any_below n (λ m. eqb (get_or c.args.signals.now m no_signal).0 s)) e
