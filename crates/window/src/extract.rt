@@ -35,6 +35,7 @@ impl<'a> Numbered<'a> {
         ensures { IfOk result (λ _. net_of out.new ≡ extract_of (net_of self.now.region.network.now) (has self.now.region.members) self.now.region.node) }
     {
         let roots = self.region.roots();
+        // The number of a signal is meant, and no place of a list.
         for s in 0..self.region.network.signals() {
             let signal = Signal(s as u16);
             if roots.has(signal) {
@@ -48,9 +49,7 @@ impl<'a> Numbered<'a> {
     pub fn extract(&self, heap: Global) -> Result<Network, ContextError>
         ensures { MatchResult result (λ n. net_of n ≡ extract_of (net_of self.now.region.network.now) (has self.now.region.members) self.now.region.node) (λ e. e ≡ ContextError.NoMemory) }
     {
-        let Some(mut out) = Network::new(heap, self.leaves.len()) else {
-            unreachable!()
-        };
+        let mut out = Network::new(heap, self.leaves.len()).unwrap();
         self.append_members(&mut out)?;
         self.append_roots(&mut out)?;
         Ok(out)

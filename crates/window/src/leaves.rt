@@ -18,7 +18,7 @@ use roll::roll::Roll;
 use std::alloc::Global;
 
 impl<'a> LeafList<'a> {
-    /// Enters the signal, unless it is a member.
+    /// Enters the signal, unless it is a member; refused where no place is free.
     fn enter(&mut self, signal: Signal, members: &SignalSet) -> Result<(), ContextError>
         ensures { Enters (λ s. not (has members.now s) && signal.0 == s) (entries_of self.old) result (entries_of self.new) }
     {

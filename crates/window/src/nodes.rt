@@ -57,6 +57,7 @@ pub(crate) fn with_nodes<F: Fn(usize) -> bool>(
     ensures others { (s : ℕ) → whole (net_of network.now) s ≡ false → has result s ≡ has marks s }
 {
     let mut wider = marks;
+    // The test is given the number of a node, and no place of a list.
     for n in 0..node_count(network) {
         if test(n) {
             wider.insert(node_signal(network, n));

@@ -21,7 +21,7 @@ pub enum ContextError {
 }
 
 impl ContextError {
-    /// The number of the refusal.
+    /// The number of the refusal, which the programs print.
     pub fn number(self) -> Option<u8>
         ensures { result ≡ number_of self }
     {

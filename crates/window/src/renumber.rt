@@ -16,7 +16,8 @@ use crate::region::Region;
 use network::limits::{MAX_FANINS, MAX_SIGNALS};
 use network::row::{Row, Signal};
 
-/// A new number for each number that a signal can have.
+/// A new number for each number that a signal can have. An array: whatever signal is asked for has a
+/// place, and no memory can be wanting.
 #[derive(Clone, Copy)]
 pub struct Renumbering {
     numbers: [u16; MAX_SIGNALS],
@@ -76,7 +77,7 @@ impl Renumbering {
         ensures members { (s : ℕ) → has region.now.members s ≡ true → new_at self.new s ≡ leaves + count_below s (has region.now.members) }
         ensures others { (s : ℕ) → has region.now.members s ≡ false → new_at self.new s ≡ new_at self.old s }
     {
-        // The members alone are counted, so `next` is no index of the loop.
+        // The members alone are counted, so the number of a node is not its new number.
         let mut next = leaves;
         for n in 0..node_count(region.network) {
             let signal = node_signal(region.network, n);

@@ -9,7 +9,8 @@ ghost use Rattle.window.specs.Lists.{listed, some_in};
 use network::limits::MAX_SIGNALS;
 use network::row::{Row, Signal};
 
-/// A flag for each number that a signal can have.
+/// A flag for each number that a signal can have. An array: a set is copied as a whole, and no memory can
+/// be wanting.
 #[derive(Clone, Copy)]
 pub struct SignalSet {
     flags: [bool; MAX_SIGNALS],
