@@ -1,5 +1,5 @@
 -- A context that was built, and what holds of it.
-use Rattle.std.proofs.Common.{◌≡◌, ℕ, ◌+◌, ◌<◌, ◌≤◌, Bool, true, false, ◌&&◌, cond, eqb, leb, List, length, get_or, Some, None, Ok, Err, vec_items, Decides, Option, Result, sym, ap, ◌∙◌, ⊎_elim, arith}
+use Rattle.std.proofs.Common.{◌≡◌, ℕ, ◌+◌, ◌<◌, ◌≤◌, Bool, true, false, cond, leb, List, length, get_or, Some, None, Ok, Err, vec_items, Decides, Option, Result, sym, ap, ◌∙◌, ⊎_elim, arith}
 use mathlib.Core.Path.{subst⁻¹}
 use Rattle.std.proofs.lemmas.List.{length-map, get_or-map, get_or_past}
 use Rattle.std.proofs.lemmas.Bool.{cases_lt, or_left, cond-true, cond-false, lt-leb, le-leb, lt-ltb, le-ltb}
@@ -11,7 +11,7 @@ use Rattle.network.specs.declared.row.Function.{Function}
 use Rattle.theory.specs.Values.{value, target}
 use Rattle.theory.specs.Same.{SameOutputs}
 use Rattle.context.specs.Care.{care, free, CDC, SameOnCare, Differ}
-use Rattle.context.specs.Levels.{into, outof, whole, Within}
+use Rattle.context.specs.Levels.{whole, Within}
 use Rattle.context.specs.Windows.{Members, is_leaf, leaves_of}
 use Rattle.context.specs.Extracts.{new_of, place_of, extract_of, signal_of, leaf_values}
 use Rattle.context.proofs.Levels.{whole-members, windowed-members, windowed-exact}
@@ -21,14 +21,12 @@ use Rattle.context.proofs.Rules.{context-rules, context-own, whole-rules, whole-
 use Rattle.window.specs.Limits.{max_leaves}
 use Rattle.window.specs.Refusals.{number_of}
 use Rattle.window.specs.Scopes.{too_high, member_of}
-use Rattle.window.specs.Sets.{has}
 use Rattle.window.specs.Entries.{leaf_signals}
 use Rattle.window.specs.Numbers.{Numbers}
 use Rattle.window.specs.Contexts.{too_many, refusal_of, IsContext, Gathers, Builds}
 use Rattle.window.specs.Laws.{ByPaths, OfContext, leaf_bits, SameValues, SameInverted, FreeExactly, FreeSoundly, FreeInWhole, OwnFunction, Safe, Harmful}
 use Rattle.window.specs.declared.scope.Scope.{Scope}
 use Rattle.window.specs.declared.scope.Scope.TheVariants.{Whole, Window}
-use Rattle.window.specs.declared.set.SignalSet.{SignalSet}
 use Rattle.window.specs.declared.extracted.Context.{Context}
 use Rattle.window.specs.declared.refusal.ContextError.{ContextError}
 use Rattle.window.specs.declared.refusal.ContextError.TheVariants.{NoNode, Level, Leaves, NoMemory}
@@ -38,18 +36,6 @@ use Rattle.window.proofs.Functions.{same_set}
 pub scope-members : (net : Net) (t : ℕ) (scope : Scope) → t < nodes net → Members net (member_of net t scope) t
 scope-members net t Whole l = whole-members net t l
 scope-members net t (Window p q) l = windowed-members net t p q l
-
--- sets that are the members of a scope
-pub whole-chosen : (net : Net) (t : ℕ) (scope : Scope) (ms all : SignalSet) → ms ≡ all → ((s : ℕ) → has all s ≡ whole net s) → scope ≡ Whole → (s : ℕ) → has ms s ≡ member_of net t scope s
-whole-chosen net t scope ms all e h k s = ap (λ (xs : SignalSet). has xs s) e ∙ h s ∙ ap (λ (v : Scope). member_of net t v s) (sym k)
-
-pub window-chosen : (net : Net) (t : ℕ) (scope : Scope) (ms all target : SignalSet) (p q : ℕ) → ms ≡ all → ((s : ℕ) → has target s ≡ eqb (net.inputs + t) s) →
-    ((s : ℕ) → has all s ≡ (whole net s && (into net (outof net (has target) q) (p + q) s && outof net (into net (has target) p) (p + q) s))) → scope ≡ Window p q →
-    (s : ℕ) → has ms s ≡ member_of net t scope s
-window-chosen net t scope ms all target p q e o h k s =
-    ap (λ (xs : SignalSet). has xs s) e ∙ h s
-    ∙ ap (λ X. whole net s && (into net (outof net X q) (p + q) s && outof net (into net X p) (p + q) s)) (same_set o)
-    ∙ ap (λ (v : Scope). member_of net t v s) (sym k)
 
 pub by-paths : (net : Net) (t : ℕ) (scope : Scope) → ByPaths net t scope
 by-paths net t scope p q e s = subst⁻¹ (λ (v : Scope). Decides (member_of net t v s) (Within net (net.inputs + t) p q s)) e (windowed-exact net (net.inputs + t) p q s)

@@ -26,6 +26,7 @@ use Rattle.roll.specs.declared.added.Added.TheVariants.{Entered, Present, Full}
 use Rattle.roll.proofs.Adds.{entries-after, adds-length}
 use Rattle.roll.proofs.Rising.{has-entered, entered-has, rising-get_or}
 use Rattle.window.specs.Limits.{max_leaves}
+use Rattle.window.specs.declared.leaf_list.LeafList.{LeafList}
 use Rattle.window.specs.declared.refusal.ContextError.{ContextError}
 use Rattle.window.specs.declared.refusal.ContextError.TheVariants.{NoNode, Level, Leaves, NoMemory}
 use Rattle.window.specs.Lists.{listed}
@@ -35,6 +36,9 @@ use Rattle.window.specs.Entries.{Overfull, Enters, NoLeaves, leaf_signals}
 pub record LeafRoll (n : ℕ) (places : List Signal) : Type 0 where
   pub roll : IsRoll signal_below n places
   pub room : length places ≡ max_leaves
+
+pub leaf-roll : (l : LeafList) → LeafRoll l.roll.count l.roll.places.now
+leaf-roll l = record { roll = record { fits = l.roll.fits; rising = l.roll.rising }; room = l.room }
 
 pub same_truth : (a b : Bool) → (a ≡ true → b ≡ true) → (b ≡ true → a ≡ true) → a ≡ b
 same_truth true b f g = sym (f refl)

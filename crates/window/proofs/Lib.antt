@@ -4,7 +4,6 @@ pub mod Used
 pub mod Steps
 pub mod NodeMarks
 pub mod Entries
-pub mod LeafLists
 pub mod Fanins
 pub mod Numbers
 pub mod Leads

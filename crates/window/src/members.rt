@@ -1,10 +1,11 @@
 //! The members of a context.
-ghost use Rattle.std.specs.Prelude.{◌≡◌, ℕ, ◌+◌, ◌<◌, ◌≤◌, Bool, ◌&&◌, ◌==◌, MatchResult};
+ghost use Rattle.std.specs.Prelude.{◌≡◌, ℕ, ◌+◌, ◌<◌, ◌≤◌, Bool, false, ◌&&◌, ◌==◌, MatchResult};
 ghost use Rattle.network.specs.Nets.{nodes};
 ghost use Rattle.network.specs.Parts.{net_of};
 ghost use Rattle.context.specs.Levels.{whole, into, outof};
 ghost use Rattle.window.specs.Limits.{max_level};
 ghost use Rattle.window.specs.Refusals.{number_of};
+ghost use Rattle.window.specs.Scopes.{too_high, member_of};
 ghost use Rattle.window.specs.Sets.{has};
 ghost use Rattle.window.specs.Contexts.{refusal_of};
 ghost use Rattle.window.specs.Regions.{IsRegion};
@@ -58,6 +59,20 @@ fn window(network: &Network, target: SignalSet, inward: u8, outward: u8) -> Sign
     common_nodes(network, &towards, &onward)
 }
 
+/// The members of the context of a node.
+fn members(network: &Network, node: usize, scope: Scope) -> SignalSet
+    requires node { node < nodes (net_of network.now) }
+    requires low { too_high scope ≡ false }
+    ensures { (s : ℕ) → has result s ≡ member_of (net_of network.now) node scope s }
+{
+    match scope {
+        Scope::Whole => all_nodes(network),
+        Scope::Window { inward, outward } => {
+            window(network, only(network, node), inward, outward)
+        }
+    }
+}
+
 impl<'a> Region<'a> {
     /// The members around a node, by the scope; or why there are none.
     pub fn around(
@@ -73,16 +88,10 @@ impl<'a> Region<'a> {
         if scope.is_too_high() {
             return Err(ContextError::Level);
         }
-        let members = match scope {
-            Scope::Whole => all_nodes(network),
-            Scope::Window { inward, outward } => {
-                window(network, only(network, node), inward, outward)
-            }
-        };
         Ok(Region {
             network,
             node,
-            members,
+            members: members(network, node, scope),
         })
     }
 }

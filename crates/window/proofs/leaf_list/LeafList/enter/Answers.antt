@@ -1,7 +1,6 @@
 use Rattle.std.proofs.Common.{sym, ◌∙◌}
 use Rattle.window.specs.Sets.{has}
-use Rattle.window.proofs.Entries.{enters-added, enters-full, rolled}
-use Rattle.window.proofs.LeafLists.{leaf-roll}
+use Rattle.window.proofs.Entries.{leaf-roll, enters-added, enters-full, rolled}
 use Rattle.window.proofs.leaf_list.LeafList.enter.Goals as goal
 
 pub invariant_of-self : goal.invariant_of-self

@@ -7,8 +7,7 @@ use Rattle.context.specs.Windows.{is_leaf}
 use Rattle.window.specs.Sets.{has}
 use Rattle.window.specs.Entries.{entries_of, Enters}
 use Rattle.window.specs.declared.refusal.ContextError.TheVariants.{NoMemory}
-use Rattle.window.proofs.Entries.{first, leaves-are, leaves-few, leaves-refused, refused-on}
-use Rattle.window.proofs.LeafLists.{leaf-roll}
+use Rattle.window.proofs.Entries.{leaf-roll, first, leaves-are, leaves-few, leaves-refused, refused-on}
 use Rattle.window.proofs.region.Region.leaves.Goals as goal
 
 pub returns-in_err-enter_leaves : goal.returns-in_err-enter_leaves
