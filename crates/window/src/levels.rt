@@ -26,7 +26,11 @@ pub fn widen_in(network: &Network, from: &SignalSet, marks: SignalSet) -> Signal
 pub fn widen_out(network: &Network, from: &SignalSet, marks: SignalSet) -> SignalSet
     ensures { (s : ℕ) → has result s ≡ (has marks s || fed (net_of network.now) (has from.now) (nodes (net_of network.now)) s) }
 {
-    with_nodes(network, marks, |n| from.has_any(node_row(network, n).used()))
+    with_nodes(
+        network,
+        marks,
+        |n| from.has_any(node_row(network, n).used()),
+    )
 }
 
 /// The signals from which some signal of the set is reached in at most that many edges.

@@ -30,10 +30,7 @@ impl SignalSet {
     pub fn has(&self, signal: Signal) -> bool
         ensures { result ≡ has self.now signal.0 }
     {
-        self.flags
-            .get(signal.0 as usize)
-            .copied()
-            .unwrap_or(false)
+        self.flags.get(signal.0 as usize).copied().unwrap_or(false)
     }
 
     /// Whether some of the signals is in the set.

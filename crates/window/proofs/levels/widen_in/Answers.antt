@@ -31,4 +31,3 @@ loop-n-preserved c = λ s.
       | else-has w ↦
           ap (λ (xs : SignalSet). has xs s) w.wider-is ∙ mark-skip v e n p (c.loop-n.invariant s) (ap (λ b. b && q) (here ∙ w.if-has.false))
     ]
-

@@ -51,4 +51,3 @@ loop-n-preserved c =
           let y = led-same v v r a a c.loop-n.invariant.0 c.loop-n.invariant.1 refl (sym here ∙ w.if-is_led.false) in
           (λ s q. ap (λ (xs : SignalSet). has xs s) w.led-is ∙ y.0 s (omega arith), λ s q. ap (λ (xs : SignalSet). has xs s) w.led-is ∙ y.1 s (omega arith))
     ]
-

@@ -69,4 +69,3 @@ overflow_add-next c =
     let d = c.node_count-n-end.ensures.inputs in
     let g = c.loop-n.invariant.0 in
     omega arith
-

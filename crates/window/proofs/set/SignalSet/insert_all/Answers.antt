@@ -11,4 +11,3 @@ pub loop-signal-preserved : goal.loop-signal-preserved
 loop-signal-preserved c = λ s.
     let p = λ (m : ℕ). eqb (get_or c.args.signals.now m no_signal).0 s in
     c.insert.ensures s ∙ mark-next (has c.loop-signal.self s) (has c.args.self.now s) (p c.loop-signal.signal-index) c.loop-signal.signal-index p (c.loop-signal.invariant s) refl
-
