@@ -59,16 +59,18 @@ fn window(network: &Network, target: SignalSet, inward: u8, outward: u8) -> Sign
     common_nodes(network, &towards, &onward)
 }
 
-/// The members of the context of a node.
-fn members(network: &Network, node: usize, scope: Scope) -> SignalSet
-    requires node { node < nodes (net_of network.now) }
-    requires low { too_high scope ≡ false }
-    ensures { (s : ℕ) → has result s ≡ member_of (net_of network.now) node scope s }
-{
-    match scope {
-        Scope::Whole => all_nodes(network),
-        Scope::Window { inward, outward } => {
-            window(network, only(network, node), inward, outward)
+impl Scope {
+    /// The members of the context of a node.
+    fn members(self, network: &Network, node: usize) -> SignalSet
+        requires node { node < nodes (net_of network.now) }
+        requires low { too_high self ≡ false }
+        ensures { (s : ℕ) → has result s ≡ member_of (net_of network.now) node self s }
+    {
+        match self {
+            Scope::Whole => all_nodes(network),
+            Scope::Window { inward, outward } => {
+                window(network, only(network, node), inward, outward)
+            }
         }
     }
 }
@@ -91,7 +93,7 @@ impl<'a> Region<'a> {
         Ok(Region {
             network,
             node,
-            members: members(network, node, scope),
+            members: scope.members(network, node),
         })
     }
 }

@@ -4,7 +4,7 @@ use Rattle.context.specs.Levels.{into, outof, whole}
 use Rattle.window.specs.Scopes.{member_of}
 use Rattle.window.specs.declared.scope.Scope.{Scope}
 use Rattle.window.proofs.Functions.{same_set}
-use Rattle.window.proofs.members.members.Goals as goal
+use Rattle.window.proofs.scope.Scope.members.Goals as goal
 
 pub returns-in-Window : goal.returns-in-Window
 returns-in-Window c = λ s.
