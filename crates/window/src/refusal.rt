@@ -1,6 +1,6 @@
 //! Why there is no context.
-ghost use Rattle.std.specs.Prelude.{◌≡◌};
-ghost use Rattle.window.specs.Refusals.{number_of};
+ghost use Rattle.std.specs.Prelude.{◌≡◌, Some};
+ghost use Rattle.window.specs.Refusals.{number_of, words_of};
 ghost use Rattle.window.specs.declared.refusal.ContextError.TheVariants.{NoMemory};
 
 use std::alloc::AllocError;
@@ -35,6 +35,8 @@ impl ContextError {
 }
 
 impl fmt::Display for ContextError {
+    ghost output = { λ e. Some (words_of e) };
+
     fn fmt<W: fmt::Write>(&self, f: &mut fmt::Formatter<W>) -> fmt::Result {
         match self {
             ContextError::NoNode => write!(f, "there is no such node"),
