@@ -11,9 +11,9 @@ pub struct Bits;
 impl Logic for Bits {
     type Value = bool;
 
-    const LANES: usize = 1;
+    ghost LANES = { 1 };
 
-    ghost lanes = { 1 };
+    const LANES: usize = 1;
 
     ghost admits = { bit_admits };
 
@@ -24,10 +24,6 @@ impl Logic for Bits {
     ghost steady = { Prim.search rules };
 
     ghost sound = { Prim.search rules };
-
-    fn lane_count() -> usize {
-        Self::LANES
-    }
 
     fn constant(bit: bool) -> bool {
         bit

@@ -9,10 +9,10 @@ ghost use Rattle.logic.specs.Walks.{over};
 
 use crate::bits::Bits;
 use crate::front::put_front;
-use crate::limits::{MAX_SIGNALS, WORD_BITS};
+use crate::limits::WORD_BITS;
 use crate::walk::walk;
 use crate::words::Words;
-use network::limits::MINTERMS;
+use network::limits::{MAX_SIGNALS, MINTERMS};
 use network::network::Network;
 use network::row::{Assignment, Signal};
 

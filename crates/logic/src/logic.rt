@@ -7,19 +7,15 @@ ghost use Rattle.logic.specs.Lanes.{LaneRow, always, picked};
 pub trait Logic {
     type Value: Copy;
 
-    const LANES: usize;
+    ghost LANES: { ℕ };
 
-    ghost lanes: { ℕ };
+    const LANES: usize;
 
     ghost admits: { Self.Value → LaneRow → Type 0 };
 
     ghost constants: { Bool → Self.Value };
 
     ghost picks: { Self.Value → Self.Value → Self.Value → Self.Value };
-
-    /// `LANES`, for code over any logic.
-    fn lane_count() -> usize
-        ensures { result ≡ lanes };
 
     /// The value that has the bit in every lane.
     fn constant(bit: bool) -> Self::Value
@@ -40,10 +36,10 @@ pub trait Exact: Logic {
 
     /// The bit that a value has in a lane.
     fn read(value: Self::Value, lane: usize) -> bool
-        requires { lane < Self.Logic.lanes }
+        requires { lane < Self.Logic.LANES }
         ensures { (a : LaneRow) → Self.Logic.admits value a → result ≡ a lane };
 
     ghost own: { (v : Self.Value) → Self.Logic.admits v (row v) };
 
-    ghost one: { (v : Self.Value) (a : LaneRow) → Self.Logic.admits v a → (l : ℕ) → l < Self.Logic.lanes → a l ≡ row v l };
+    ghost one: { (v : Self.Value) (a : LaneRow) → Self.Logic.admits v a → (l : ℕ) → l < Self.Logic.LANES → a l ≡ row v l };
 }

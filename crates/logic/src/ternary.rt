@@ -17,9 +17,9 @@ pub struct Ternary;
 impl Logic for Ternary {
     type Value = Trit;
 
-    const LANES: usize = 1;
+    ghost LANES = { 1 };
 
-    ghost lanes = { 1 };
+    const LANES: usize = 1;
 
     ghost admits = { trit_admits };
 
@@ -30,10 +30,6 @@ impl Logic for Ternary {
     ghost steady = { Prim.search rules };
 
     ghost sound = { Prim.search rules };
-
-    fn lane_count() -> usize {
-        Self::LANES
-    }
 
     fn constant(bit: bool) -> Trit {
         Trit::known(bit)

@@ -17,9 +17,9 @@ pub struct Words;
 impl Logic for Words {
     type Value = u64;
 
-    const LANES: usize = WORD_BITS;
+    ghost LANES = { word_bits };
 
-    ghost lanes = { word_bits };
+    const LANES: usize = WORD_BITS;
 
     ghost admits = { word_admits };
 
@@ -40,10 +40,6 @@ impl Logic for Words {
         let hb = h i below in
         let ld = l i below in
         p ∙ (cc) };
-
-    fn lane_count() -> usize {
-        Self::LANES
-    }
 
     fn constant(bit: bool) -> u64 {
         if bit { u64::MAX } else { 0 }

@@ -1,11 +1,12 @@
 use Rattle.std.proofs.Common.{◌≡◌, ℕ, ◌<◌, ◌≤◌, min, List, length, get_or, drop, None, ap, ◌∙◌, arith}
+use Rattle.network.specs.Limits.{max_signals}
 use Rattle.network.specs.Rows.{bit_at, no_signal}
 use Rattle.network.specs.Nets.{Net, size, output_at}
 use Rattle.network.specs.Parts.{net_of}
 use Rattle.network.specs.declared.row.Signal.{Signal}
 use Rattle.network.proofs.Nets.{legal-net}
 use Rattle.theory.specs.Values.{value}
-use Rattle.logic.specs.Limits.{word_bits, max_signals}
+use Rattle.logic.specs.Limits.{word_bits}
 use Rattle.logic.specs.Lanes.{LaneRow, Admit}
 use Rattle.logic.specs.Words.{word_admits}
 use Rattle.logic.proofs.Fronts.{counted-at}
