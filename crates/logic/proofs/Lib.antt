@@ -5,10 +5,10 @@ pub mod Halves
 pub mod Fronts
 pub mod Folds
 pub mod Builds
+pub mod Passes
 pub mod Walks
 pub mod Depends
-pub mod Turns
 pub mod Wheres
-pub mod Again
+pub mod Turns
 pub mod Outputs
 pub mod TritLaws

@@ -1,8 +1,8 @@
 -- The walk with a node inverted, from the walk as the network is.
-use Rattle.std.proofs.Common.{◌≡◌, ℕ, ◌+◌, ◌<◌, ◌≤◌, Bool, true, false, eqb, List, length, get_or, take, drop, set, Some, None, sym, refl, ap, ◌∙◌, subst, ⊎_elim, add_assoc, arith}
-use mathlib.Core.Path.{subst⁻¹}
-use Rattle.std.proofs.lemmas.List.{get_or-take, get_or_default, length-take-le, length-append, length-drop, same_lists}
-use Rattle.std.proofs.lemmas.Bool.{cases_Bool, or_parts, eqb-false}
+use Rattle.std.proofs.Common.{◌≡◌, ℕ, ◌+◌, ◌<◌, ◌≤◌, Bool, true, false, ◌&&◌, eqb, List, ◌++◌, length, get_or, take, drop, set, Some, None, sym, ap, ◌∙◌, ⊎_elim, arith}
+use Rattle.std.proofs.lemmas.List.{get_or-take, get_or-set_same, get_or-set_other, length-take-le, length-append, drop-set-lt}
+use Rattle.std.proofs.lemmas.Slice.{drop-append-drop}
+use Rattle.std.proofs.lemmas.Bool.{cases_Bool, cases_eq, cases_lt, and_from, and_right, or_parts, eqb-false}
 use Rattle.network.specs.Rows.{fanin}
 use Rattle.network.specs.Nets.{Net, nodes, size, row_at}
 use Rattle.network.specs.declared.row.Row.{Row}
@@ -10,10 +10,11 @@ use Rattle.theory.specs.Values.{Lowers}
 use Rattle.theory.proofs.Passes.{rises}
 use Rattle.theory.proofs.Replace.{turns-here, turns-none, only-some}
 use Rattle.logic.specs.Folds.{node_of, inverse_of, turned_of}
-use Rattle.logic.specs.Walks.{walked, over}
+use Rattle.logic.specs.Sets.{is_in, Closed}
+use Rattle.logic.specs.Walks.{over, Passed}
 use Rattle.logic.specs.Depends.{any_marked, dependents}
 use Rattle.logic.proofs.Folds.{node-same}
-use Rattle.logic.proofs.Fronts.{Front, front-more, front_at, over-front}
+use Rattle.logic.proofs.Fronts.{over-at}
 use Rattle.logic.proofs.Depends.{depends, depends-node, depends-below, any_none}
 use Rattle.logic.proofs.Walks as walks
 
@@ -63,70 +64,67 @@ module _ {V : Type 0} (pick : V → V → V → V) (of : Bool → V) (net : Net)
       node_of pick of (row_at net n) v ≡ inverted (net.inputs + n)
   above-value n v h up same = node-same pick of (row_at net n) v inverted same ∙ sym (inverted-node n h (λ q. omega arith))
 
-  -- the slices: ps has the values as the network is
-  module _ (ps : List V) (first : take (size net) ps ≡ walked pick of None net.rows leaves) where
-    abbrev turned : List V
-    turned = walked pick of (Some T) net.rows leaves
+  -- what is copied: ss has the values as the network is, but for the target's, which is the other
+  entered-at : (ps es ss : List V) → size net ≤ length ps → ss ≡ set (over (take (size net) ps) es) T (inverse_of pick of (get_or ps T (of false))) →
+      (s : ℕ) → s < size net → (s ≡ T → ⊥) → get_or ss s (of false) ≡ get_or ps s (of false)
+  entered-at ps es ss room is s h ne =
+      let fs : List V = take (size net) ps in
+      let long-is : length fs ≡ size net = length-take-le (size net) ps room in
+      let lt : s < length fs = omega arith in
+      ap (λ (l : List V). get_or l s (of false)) is ∙ get_or-set_other (over fs es) T s (inverse_of pick of (get_or ps T (of false))) (of false) ne ∙ over-at fs es s (of false) lt ∙ get_or-take (size net) ps s (of false) h
 
-    turned-size : length turned ≡ size net
-    turned-size = walks.walked-size pick of (Some T) net low leaves long
+  entered-target : (ps es ss : List V) → size net ≤ length ps → ss ≡ set (over (take (size net) ps) es) T (inverse_of pick of (get_or ps T (of false))) →
+      get_or ss T (of false) ≡ inverse_of pick of (get_or ps T (of false))
+  entered-target ps es ss room is =
+      let fs : List V = take (size net) ps in
+      let long-is : length fs ≡ size net = length-take-le (size net) ps room in
+      let fits : T < length (over fs es) = omega (arith, length-append fs (drop (length fs) es)) in
+      ap (λ (l : List V). get_or l T (of false)) is ∙ get_or-set_same (over fs es) T (inverse_of pick of (get_or ps T (of false))) (of false) fits
 
-    pub plain_at : (s : ℕ) → s < size net → get_or ps s (of false) ≡ as_is s
-    plain_at s h = sym (get_or-take (size net) ps s (of false) h) ∙ ap (λ l. get_or l s (of false)) first
+  -- a pass over the wanted dependents of the target gives each wanted signal its value
+  pub passed_again : (needed marks : List Bool) (ps es ss vs : List V) → Closed net needed → take (size net) marks ≡ dependents T net → size net ≤ length ps →
+      ((s : ℕ) → s < size net → is_in needed s ≡ true → get_or ps s (of false) ≡ as_is s) →
+      ss ≡ set (over (take (size net) ps) es) T (inverse_of pick of (get_or ps T (of false))) →
+      Passed pick of None net (t + 1) (nodes net) (λ s. is_in needed s && is_in marks s) ss vs →
+      (s : ℕ) → s < size net → is_in needed s ≡ true → get_or vs s (of false) ≡ inverted s
+  passed_again needed marks ps es ss vs closed marked room first is f =
+      let v : ℕ → V = λ s. get_or vs s (of false) in
+      let under : (s : ℕ) → s < T → is_in needed s ≡ true → v s ≡ inverted s =
+      λ s h e. f.below s (of false) (omega arith) ∙ entered-at ps es ss room is s (omega arith) (λ q. omega arith) ∙ first s (omega arith) e ∙ sym (below-same s h) in
+      let mark : (s : ℕ) → s < size net → is_in marks s ≡ depends T net low s =
+      λ s h. sym (get_or-take (size net) marks s false h) ∙ ap (λ (ms : List Bool). get_or ms s false) marked in
+      let over_it : (n : ℕ) → n < nodes net → t < n → ((s : ℕ) → s < net.inputs + n → is_in needed s ≡ true → v s ≡ inverted s) → is_in needed (net.inputs + n) ≡ true → v (net.inputs + n) ≡ inverted (net.inputs + n) =
+      λ n l up below e.
+      let s : ℕ = net.inputs + n in
+      let r : Row = row_at net n in
+      let b : s < size net = omega arith in
+      ⊎_elim
+      (λ m.
+      f.made n (of false) (omega arith) l (and_from (is_in needed s) (is_in marks s) e m) ∙ ap (λ c. turned_of pick of c (node_of pick of r v)) (turns-none s) ∙
+      above-value n v l up (λ i q. below (fanin r i) (low n l i q) (closed n i l e q)))
+      (λ m.
+      f.others s (of false) (and_right (is_in needed s) (is_in marks s) m) ∙ entered-at ps es ss room is s b (λ q. omega arith) ∙ first s b e ∙ sym (unmarked-same s b (sym (mark s b) ∙ m)))
+      (cases_Bool (is_in marks s)) in
+      rises (λ s. is_in needed s ≡ true → v s ≡ inverted s) net.inputs (nodes net)
+      (λ i l e. under i (omega arith) e)
+      (λ n l below e.
+      ⊎_elim
+      (λ (low_n : n < t). under (net.inputs + n) (omega arith) e)
+      (λ (high : t ≤ n).
+      ⊎_elim
+      (λ (same : n ≡ t).
+      let there : net.inputs + n ≡ T = ap (λ k. net.inputs + k) same in
+      ap v there ∙ f.below T (of false) (omega arith) ∙ entered-target ps es ss room is ∙ ap (inverse_of pick of) (first T (omega arith) (ap (is_in needed) (sym there) ∙ e)) ∙ sym target-value ∙ ap inverted (sym there))
+      (λ ne. over_it n l (omega arith) below e)
+      (cases_eq n t))
+      (cases_lt n t))
 
-    -- what is copied
-    copied : size net ≤ length ps → take T ps ≡ take T turned
-    copied room =
-        let fits : T ≤ length ps = omega arith in
-        let more : T ≤ length turned = omega (arith, turned-size) in
-        let one : length (take T ps) ≡ T = length-take-le T ps fits in
-        let two : length (take T turned) ≡ T = length-take-le T turned more in
-        same_lists (take T ps) (take T turned) (one ∙ sym two)
-        (λ s d h.
-        let lt : s < T = omega arith in
-        let l : s < size net = omega arith in
-        let a : s < length ps = omega arith in
-        let b : s < length turned = omega (arith, turned-size) in
-        get_or-take T ps s d lt ∙ get_or_default ps s d (of false) a ∙ plain_at s l ∙ sym (below-same s lt) ∙ get_or_default turned s (of false) d b ∙ sym (get_or-take T turned s d lt))
-
-    -- up to the target
-    pub turned_none : (es : List V) (v : V) → size net ≤ length ps → size net ≤ length es → v ≡ inverse_of pick of (get_or ps T (of false)) → Front (set (over (take T ps) es) T v) (T + 1) turned es
-    turned_none es v room space is =
-        let fits : T ≤ length ps = omega arith in
-        let fs : List V = take T ps in
-        let is-long : length fs ≡ T = length-take-le T ps fits in
-        let f : Front (over fs es) T turned es = over-front fs turned es T is-long (copied room) in
-        let a : T < length (over fs es) = omega (arith, length-append fs (drop (length fs) es), length-drop (length fs) es) in
-        let b : T < length turned = omega (arith, turned-size) in
-        let l : T < size net = omega arith in
-        front-more (over fs es) turned es T v (of false) a b (is ∙ ap (inverse_of pick of) (plain_at T l) ∙ sym target-value) f
-
-    -- the same, where i is the number of inputs
-    pub turned-entered : (es ss : List V) (i : ℕ) → i ≡ net.inputs → size net ≤ length ps → size net ≤ length es →
-        ss ≡ set (over (take (i + t) ps) es) (i + t) (inverse_of pick of (get_or ps (i + t) (of false))) → Front ss (net.inputs + (t + 1)) turned es
-    turned-entered es ss i e room space is =
-        let there : ss ≡ set (over (take T ps) es) T (inverse_of pick of (get_or ps T (of false))) =
-        is ∙ ap (λ j. set (over (take (j + t) ps) es) (j + t) (inverse_of pick of (get_or ps (j + t) (of false)))) e in
-        subst (λ (m : ℕ). Front ss m turned es) (add_assoc net.inputs t 1)
-        (subst⁻¹ (λ (l : List V). Front l (T + 1) turned es) there (turned_none es (inverse_of pick of (get_or ps T (of false))) room space refl))
-
-    -- one node above the target more
-    pub turned_more : (vs es : List V) (marks : List Bool) (n i : ℕ) (x v : V) → i ≡ net.inputs → n < nodes net → t < n → size net ≤ length vs → size net ≤ length ps →
-        take (size net) marks ≡ dependents T net → Front vs (net.inputs + n) turned es → x ≡ get_or ps (i + n) x →
-        (get_or marks (i + n) false ≡ true → v ≡ node_of pick of (row_at net n) (λ s. get_or vs s (of false))) → (get_or marks (i + n) false ≡ false → v ≡ x) →
-        Front (set vs (i + n) v) (net.inputs + (n + 1)) turned es
-    turned_more vs es marks n i x v e h up space room marked f read again same =
-        let s : ℕ = net.inputs + n in
-        let r : Row = row_at net n in
-        let l : s < size net = omega arith in
-        let p : i + n < length ps = omega arith in
-        let there : i + n ≡ s = ap (λ j. j + n) e in
-        let before : x ≡ as_is s = read ∙ get_or_default ps (i + n) x (of false) p ∙ ap (λ j. get_or ps j (of false)) there ∙ plain_at s l in
-        let mark : get_or marks (i + n) false ≡ depends T net low s =
-        ap (λ j. get_or marks j false) there ∙ sym (get_or-take (size net) marks s false l) ∙ ap (λ (ms : List Bool). get_or ms s false) marked in
-        let value : v ≡ inverted s =
-        ⊎_elim
-        (λ b. again b ∙ above-value n (λ s. get_or vs s (of false)) h up (λ j q. front_at vs turned es s (fanin r j) (of false) (low n h j q) f))
-        (λ b. same b ∙ before ∙ sym (unmarked-same s l (sym mark ∙ b)))
-        (cases_Bool (get_or marks (i + n) false)) in
-        subst⁻¹ (λ (j : ℕ). Front (set vs j v) (net.inputs + (n + 1)) turned es) there (walks.walk_more pick of (Some T) net low leaves long vs es n v h space f value)
+  -- what stands behind the last signal stays
+  pub entered-behind : (ps es ss : List V) → size net ≤ length ps → ss ≡ set (over (take (size net) ps) es) T (inverse_of pick of (get_or ps T (of false))) → drop (size net) ss ≡ drop (size net) es
+  entered-behind ps es ss room is =
+      let fs : List V = take (size net) ps in
+      let x : V = inverse_of pick of (get_or ps T (of false)) in
+      let long-is : length fs ≡ size net = length-take-le (size net) ps room in
+      let lt : T < size net = omega arith in
+      let le : size net ≤ size net = omega arith in
+      ap (drop (size net)) is ∙ drop-set-lt (size net) (over fs es) T x lt ∙ ap (λ n. drop (size net) (fs ++ drop n es)) long-is ∙ drop-append-drop (size net) es fs (size net) le long-is

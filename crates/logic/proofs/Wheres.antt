@@ -1,45 +1,62 @@
--- Walks over a set of signals: each signal of the set has its value.
-use Rattle.std.proofs.Common.{◌≡◌, ℕ, ◌+◌, ◌<◌, ◌≤◌, Bool, true, false, List, length, get_or, take, set, Option, sym, ap, ◌∙◌, ⊎_elim, arith}
+-- What stands in a slice after a pass over wanted signals.
+use Rattle.std.proofs.Common.{◌≡◌, ℕ, ◌+◌, ◌<◌, ◌≤◌, Bool, true, false, List, length, get_or, take, drop, Option, sym, ap, ◌∙◌, arith}
 use mathlib.Core.Path.{subst⁻¹}
-use Rattle.std.proofs.lemmas.List.{get_or_default, get_or-take, get_or-set_same, get_or-set_other}
-use Rattle.std.proofs.lemmas.Bool.{cases_eq}
+use Rattle.std.proofs.lemmas.List.{get_or_default, get_or-take, length-take-le, same_lists, take_all}
 use Rattle.network.specs.Rows.{fanin}
 use Rattle.network.specs.Nets.{Net, nodes, size, row_at}
 use Rattle.network.specs.declared.row.Row.{Row}
 use Rattle.theory.specs.Values.{Lowers}
+use Rattle.theory.proofs.Passes.{rises}
 use Rattle.logic.specs.Lanes.{LaneRow, always, picked}
-use Rattle.logic.specs.Sets.{is_in, Closed}
-use Rattle.logic.specs.Walks.{node_step, walked, signal_row, WalkedWhere, AdmitWhere}
+use Rattle.logic.specs.Sets.{is_in}
+use Rattle.logic.specs.Walks.{walked, over, signal_row, WalkedWhere, AdmitWhere, Passed}
+use Rattle.logic.proofs.Fronts.{front-all}
 use Rattle.logic.proofs.Walks.{admit-front, leaves-long, walked-sound}
 use Rattle.logic.proofs.Walks as walks
 
+-- what is wanted has the fanins of each of its nodes
+abbrev pub Shut : Net → (ℕ → Bool) → Type 0
+Shut net is = (n i : ℕ) → n < nodes net → is (net.inputs + n) ≡ true → i < (row_at net n).count → is (fanin (row_at net n) i) ≡ true
+
 module _ {V : Type 0} (pick : V → V → V → V) (of : Bool → V) (turn : Option ℕ) (net : Net) (low : Lowers net) (leaves : List V) (long : length leaves ≡ net.inputs) where
-  -- a walk over a set of signals: only the leaves have their values
-  pub where-none : (needed : List Bool) (es : List V) → take net.inputs es ≡ leaves → WalkedWhere needed (net.inputs + 0) (walked pick of turn net.rows leaves) es
-  where-none needed es e s d h _ =
-      let lt : s < net.inputs = omega arith in
-      sym (get_or-take net.inputs es s d lt) ∙ ap (λ l. get_or l s d) e ∙ sym (walks.walked-leaf pick of turn net low leaves long s d lt)
-
-  -- the next node's value, from a slice that has those of its fanins
-  pub where_next : (needed : List Bool) (vs : List V) (n : ℕ) → Closed net needed → n < nodes net → WalkedWhere needed (net.inputs + n) (walked pick of turn net.rows leaves) vs → is_in needed (net.inputs + n) ≡ true →
-      node_step pick of turn (net.inputs + n) (row_at net n) (λ s. get_or vs s (of false)) ≡ walks.at pick of turn net low leaves long (net.inputs + n)
-  where_next needed vs n closed h f e =
+  -- a pass over all nodes gives each wanted signal its value
+  pub passed_at : (is : ℕ → Bool) (es vs : List V) → Shut net is → take net.inputs es ≡ leaves → Passed pick of turn net 0 (nodes net) is es vs →
+      (s : ℕ) → s < size net → is s ≡ true → get_or vs s (of false) ≡ walks.at pick of turn net low leaves long s
+  passed_at is es vs shut e f =
+      let v : ℕ → V = λ s. get_or vs s (of false) in
+      let w : ℕ → V = walks.at pick of turn net low leaves long in
+      rises (λ s. is s ≡ true → v s ≡ w s) net.inputs (nodes net)
+      (λ i l _.
+      f.below i (of false) (omega arith) ∙ sym (get_or-take net.inputs es i (of false) l) ∙ ap (λ l. get_or l i (of false)) e ∙ sym (walks.walked-leaf pick of turn net low leaves long i (of false) l))
+      (λ n l below b.
       let r : Row = row_at net n in
-      walks.local pick of turn (net.inputs + n) r (λ s. get_or vs s (of false)) (walks.at pick of turn net low leaves long) (λ i q. f (fanin r i) (of false) (low n h i q) (closed n i h e q)) ∙ sym (walks.walked-node pick of turn net low leaves long n h)
+      f.made n (of false) (omega arith) l b ∙ walks.local pick of turn (net.inputs + n) r v w (λ i q. below (fanin r i) (low n l i q) (shut n i l b q)) ∙ sym (walks.walked-node pick of turn net low leaves long n l))
 
-  -- one node more
-  pub where-more : (needed : List Bool) (vs : List V) (n : ℕ) (v : V) → n < nodes net → size net ≤ length vs → WalkedWhere needed (net.inputs + n) (walked pick of turn net.rows leaves) vs →
-      (is_in needed (net.inputs + n) ≡ true → v ≡ walks.at pick of turn net low leaves long (net.inputs + n)) → WalkedWhere needed (net.inputs + (n + 1)) (walked pick of turn net.rows leaves) (set vs (net.inputs + n) v)
-  where-more needed vs n v h room f is s d l e =
-      let m : ℕ = net.inputs + n in
+  -- a slice that has the values of a set
+  pub where_at : (needed : List Bool) (vs : List V) → size net ≤ length vs → ((s : ℕ) → s < size net → is_in needed s ≡ true → get_or vs s (of false) ≡ walks.at pick of turn net low leaves long s) →
+      WalkedWhere needed (size net) (walked pick of turn net.rows leaves) vs
+  where_at needed vs room f s d h e =
       let ws : List V = walked pick of turn net.rows leaves in
-      let fits : m < length vs = omega arith in
-      let inside : m < length ws = omega (arith, walks.walked-size pick of turn net low leaves long) in
-      ⊎_elim
-      (λ (q : s ≡ m).
-      ap (λ k. get_or (set vs m v) k d) q ∙ get_or-set_same vs m v d fits ∙ is (ap (is_in needed) (sym q) ∙ e) ∙ get_or_default ws m (of false) d inside ∙ ap (λ k. get_or ws k d) (sym q))
-      (λ ne. get_or-set_other vs m s v d ne ∙ f s d (let b : s < m = omega arith in b) e)
-      (cases_eq s m)
+      let a : s < length vs = omega arith in
+      let b : s < length ws = omega (arith, walks.walked-size pick of turn net low leaves long) in
+      get_or_default vs s d (of false) a ∙ f s h e ∙ get_or_default ws s (of false) d b
+
+  -- a slice that has all values, and behind them what es has there
+  pub all_at : (vs es : List V) → size net ≤ length vs → ((s : ℕ) → s < size net → get_or vs s (of false) ≡ walks.at pick of turn net low leaves long s) → drop (size net) vs ≡ drop (size net) es →
+      vs ≡ over (walked pick of turn net.rows leaves) es
+  all_at vs es room f rest =
+      let ws : List V = walked pick of turn net.rows leaves in
+      let k : ℕ = size net in
+      let size-is : length ws ≡ k = walks.walked-size pick of turn net low leaves long in
+      let le : length ws ≤ k = omega arith in
+      let front : take k vs ≡ ws =
+      same_lists (take k vs) ws (length-take-le k vs room ∙ sym size-is)
+      (λ s d h.
+      let lt : s < k = omega (arith, length-take-le k vs room) in
+      let a : s < length vs = omega arith in
+      let b : s < length ws = omega arith in
+      get_or-take k vs s d lt ∙ get_or_default vs s d (of false) a ∙ f s lt ∙ get_or_default ws s (of false) d b) in
+      front-all vs ws es k size-is (record { front = front ∙ sym (take_all k ws le); rest = rest })
 
 -- from the laws of a logic: every value of the set admits the row of its signal's values, if the leaves' do
 pub where-sound : {V : Type 0} (admits : V → LaneRow → Type 0) (pick : V → V → V → V) (of : Bool → V) →

@@ -1,6 +1,6 @@
 -- What a logic, given by its pick and its constants, makes of a network.
-use Rattle.std.specs.Prelude.{◌≡◌, ℕ, ◌<◌, Bool, true, false, List, ◌++◌, length, take, drop, Some, None, Option, slice_index_or}
-use Rattle.network.specs.Nets.{Net, size}
+use Rattle.std.specs.Prelude.{◌≡◌, ℕ, ◌+◌, ◌<◌, ◌≤◌, Bool, true, false, List, ◌++◌, length, take, drop, Some, None, Option, slice_index_or}
+use Rattle.network.specs.Nets.{Net, row_at, size}
 use Rattle.network.specs.declared.row.Row.{Row}
 use Rattle.network.specs.declared.row.Signal.{Signal}
 use Rattle.theory.specs.Values.{turns, built, value}
@@ -45,3 +45,10 @@ WalkedWhere {V} set n ws vs = (s : ℕ) (d : V) → s < n → is_in set s ≡ tr
 abbrev pub AdmitWhere : {V : Type 0} → List Bool → (V → LaneRow → Type 0) → Option ℕ → Net → List V → List V → Type 0
 AdmitWhere {V} set admits turn net leaves vs =
     (rows : ℕ → LaneRow) → Admit admits leaves net.inputs rows → (s : ℕ) (d : V) → s < size net → is_in set s ≡ true → admits (slice_index_or vs s d) (signal_row turn net rows s)
+
+-- vs is es after one pass upward over the nodes from node first on and below node m: each whose signal is wanted has its value, made from those of vs, and no other place has changed
+pub record Passed {V : Type 0} (pick : V → V → V → V) (of : Bool → V) (turn : Option ℕ) (net : Net) (first m : ℕ) (wanted : ℕ → Bool) (es vs : List V) : Type 0 where
+  pub made : (n : ℕ) (d : V) → first ≤ n → n < m → wanted (net.inputs + n) ≡ true → slice_index_or vs (net.inputs + n) d ≡ node_step pick of turn (net.inputs + n) (row_at net n) (λ s. slice_index_or vs s d)
+  pub below : (s : ℕ) (d : V) → s < net.inputs + first → slice_index_or vs s d ≡ slice_index_or es s d
+  pub others : (s : ℕ) (d : V) → wanted s ≡ false → slice_index_or vs s d ≡ slice_index_or es s d
+  pub behind : drop (net.inputs + m) vs ≡ drop (net.inputs + m) es

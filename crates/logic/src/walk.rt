@@ -1,11 +1,11 @@
 //! The one walk over the nodes of a network.
-ghost use Rattle.std.specs.Prelude.{◌≡◌, ◌≤◌, length, take};
+ghost use Rattle.std.specs.Prelude.{◌≡◌, ℕ, ◌<◌, ◌≤◌, Bool, length, take};
 ghost use Rattle.network.specs.Limits.{minterms};
-ghost use Rattle.network.specs.Nets.{size};
+ghost use Rattle.network.specs.Nets.{size, nodes};
 ghost use Rattle.network.specs.Parts.{net_of};
 ghost use Rattle.theory.specs.Values.{turns};
 ghost use Rattle.logic.specs.Folds.{inverse_of, turned_of};
-ghost use Rattle.logic.specs.Walks.{turn_of, walked_into, AdmitSignals};
+ghost use Rattle.logic.specs.Walks.{turn_of, walked_into, AdmitSignals, Passed};
 
 use crate::fold::node_value;
 use crate::logic::Logic;
@@ -40,23 +40,29 @@ fn turned<L: Logic>(v: L::Value, turn: Option<Signal>, signal: usize) -> L::Valu
     }
 }
 
-/// Gives each node its value, in ascending order, with the value of one signal inverted or of none. The
-/// leaves' values stand in the first places.
-fn walk_values<L: Logic>(
+/// Gives each node from node `first` on whose signal is wanted its value, in ascending order, with the
+/// value of one signal inverted or of none. No other place changes.
+pub(crate) fn walk_wanted<L: Logic, W: Fn(usize) -> bool>(
     network: &Network,
+    first: usize,
     turn: Option<Signal>,
+    wanted: W,
     values: &mut [L::Value],
     fold: &mut [L::Value],
 )
+    requires within { first ≤ nodes (net_of network.now) }
+    requires callable { (s : ℕ) → s < size (net_of network.now) → W.pre wanted s }
     requires room { size (net_of network.now) ≤ length values.old }
     requires scratch { minterms ≤ length fold.old }
-    ensures { values.new ≡ walked_into L.Logic.picks L.Logic.constants (turn_of turn) (net_of network.now) values.old values.old }
+    ensures { (is : ℕ → Bool) → ((s : ℕ) (b : Bool) → s < size (net_of network.now) → W.post wanted s b → b ≡ is s) → Passed L.Logic.picks L.Logic.constants (turn_of turn) (net_of network.now) first (nodes (net_of network.now)) is values.old values.new }
 {
-    let inputs = network.inputs();
-    let rows = network.rows();
-    for n in 0..rows.len() {
-        let v = node_value::<L>(&rows[n], values, fold);
-        values[inputs + n] = turned::<L>(v, turn, inputs + n);
+    let start = network.inputs() + first;
+    for (n, row) in network.rows()[first..].iter().enumerate() {
+        let i = start + n;
+        if wanted(i) {
+            let v = node_value::<L>(row, values, fold);
+            values[i] = turned::<L>(v, turn, i);
+        }
     }
 }
 
@@ -74,5 +80,5 @@ pub fn walk<L: Logic>(
     ensures leaves { take (net_of network.now).inputs values.new ≡ take (net_of network.now).inputs values.old }
     ensures admits { AdmitSignals L.Logic.admits (turn_of turn) (net_of network.now) values.old values.new }
 {
-    walk_values::<L>(network, turn, values, fold);
+    walk_wanted::<L, _>(network, 0, turn, |_| true, values, fold);
 }

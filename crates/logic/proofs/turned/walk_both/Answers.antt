@@ -1,50 +1,46 @@
-use Rattle.std.proofs.Common.{◌≡◌, ℕ, ◌+◌, List, take, Some, None, sym, ap, ◌∙◌, arith}
-use mathlib.Core.Path.{subst⁻¹}
-use Rattle.network.specs.Nets.{Net, size}
+use Rattle.std.proofs.Common.{◌≡◌, ℕ, ◌+◌, ◌<◌, ◌≤◌, true, false, List, length, take, replicate, Some, None, arith}
+use Rattle.std.proofs.lemmas.List.{get_or-replicate}
+use Rattle.network.specs.Limits.{max_signals}
+use Rattle.network.specs.Nets.{Net, size, row_at}
 use Rattle.network.specs.Parts.{net_of}
+use Rattle.network.specs.Rows.{fanin}
 use Rattle.network.proofs.Nets.{legal-net}
 use Rattle.theory.proofs.Values.{lowers}
-use Rattle.logic.specs.Lanes.{Admit}
-use Rattle.logic.specs.Walks.{walked, over, signal_row}
-use Rattle.logic.proofs.Walks.{leaves-long, over-walked, over-sound, admit-front}
+use Rattle.logic.specs.Sets.{is_in}
+use Rattle.logic.proofs.Walks.{leaves-long}
+use Rattle.logic.proofs.Wheres.{all_at}
 use Rattle.logic.proofs.turned.walk_both.Goals as goal
 
-pub walk_turned-requires : goal.walk_turned-requires
-walk_turned-requires g c =
-    let p = g.L.Logic.picks in
-    let of = g.L.Logic.constants in
+-- every signal is in the set of all
+all-in : (s : ℕ) → s < max_signals → is_in (replicate max_signals true) s ≡ true
+all-in s h = get_or-replicate max_signals s true false h
+
+pub walk_needed-requires-clause-closed : goal.walk_needed-requires-clause-closed
+walk_needed-requires-clause-closed g c n i h e q =
     let net : Net = net_of c.args.network.now in
-    let ps = c.args.plain.now in
-    let leaves = take net.inputs ps in
-    let walked-is = ap (take (size net)) c.walk.ensures.values ∙ over-walked p of None net (lowers (legal-net c.args.network.now)) leaves (leaves-long net ps c.requires.first) ps in
-    record {
-      aimed = c.requires.aimed;
-      marked = c.requires.marked;
-      walked = walked-is ∙ ap (walked p of None net.rows) (sym c.walk.ensures.leaves);
-      first = omega arith;
-      second = c.requires.second;
-      marks = c.requires.marks;
-      scratch = omega arith;
-    }
+    let legal = legal-net c.args.network.now in
+    let low : fanin (row_at net n) i < net.inputs + n = lowers legal n h i q in
+    all-in (fanin (row_at net n) i) (omega (arith, legal.few_inputs, legal.few_nodes))
 
 pub returns : goal.returns
 returns g c =
     let V = g.row.L-Value.Denot in
-    let law = g.met.L.Logic in
     let p = g.L.Logic.picks in
     let of = g.L.Logic.constants in
     let net : Net = net_of c.args.network.now in
-    let t : ℕ = net.inputs + c.args.target in
-    let ps = c.args.plain.now in
-    let es = c.args.turned.now in
-    let leaves = take net.inputs ps in
-    let is : c.walk_turned.new.turned ≡ over (walked p of (Some t) net.rows leaves) es =
-    c.walk_turned.ensures ∙ ap (λ (l : List V). over (walked p of (Some t) net.rows l) es) c.walk.ensures.leaves in
+    let legal = legal-net c.args.network.now in
+    let low = lowers legal in
+    let ps : List V = c.args.plain.now in
+    let leaves : List V = take net.inputs ps in
+    let long = leaves-long net ps c.requires.first in
+    let vs : List V = c.walk_needed.new.plain in
+    let ws : List V = c.walk_needed.new.turned in
+    let first : size net ≤ length vs = omega arith in
+    let second : size net ≤ length ws = omega arith in
+    let in_all : (s : ℕ) → s < size net → is_in (replicate max_signals true) s ≡ true = λ s h. all-in s (omega (arith, legal.few_inputs, legal.few_nodes)) in
     record {
-      plain = c.walk.ensures.values;
-      turned = is;
-      admits = c.walk.ensures.admits;
-      inverted = λ rows all.
-          subst⁻¹ (λ (vs : List V). Admit g.L.Logic.admits vs (size net) (signal_row (Some t) net rows)) is
-          (over-sound g.L.Logic.admits p of law.steady law.sound (Some t) net (lowers (legal-net c.args.network.now)) leaves es rows (leaves-long net ps c.requires.first) (admit-front g.L.Logic.admits ps net.inputs rows all));
+      plain = all_at p of None net low leaves long vs ps first (λ s h. c.walk_needed.ensures.plain s (of false) h (in_all s h)) c.walk_needed.ensures.behind;
+      turned = all_at p of (Some (net.inputs + c.args.target)) net low leaves long ws c.args.turned.now second (λ s h. c.walk_needed.ensures.turned s (of false) h (in_all s h)) c.walk_needed.ensures.behind_turned;
+      admits = λ rows all s d h. c.walk_needed.ensures.admits rows all s d h (in_all s h);
+      inverted = λ rows all s d h. c.walk_needed.ensures.inverted rows all s d h (in_all s h);
     }
