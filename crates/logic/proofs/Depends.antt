@@ -1,8 +1,11 @@
 -- The signals that depend on a node, and the values of those that do not.
-use Rattle.std.proofs.Common.{◌≡◌, ℕ, zero, suc, ◌+◌, ◌-◌, ◌<◌, ◌≤◌, Bool, true, false, ◌||◌, eqb, List, length, get_or, drop, set, replicate, sym, refl, ap, ◌∙◌, ⊎_elim, arith}
-use Rattle.std.proofs.lemmas.List.{length-replicate, get_or-replicate, take_at, drop-drop, drop_at}
+use Rattle.std.proofs.Common.{◌≡◌, ℕ, zero, suc, ◌+◌, ◌-◌, ◌<◌, ◌≤◌, Bool, true, false, ◌||◌, eqb, List, length, get_or, take, drop, set, replicate, sym, refl, ap, ◌∙◌, ⊎_elim, add-one, arith}
+use Rattle.std.proofs.lemmas.List.{length-take-le, get_or-take, length-replicate, get_or-replicate, take_at, drop-drop, drop_at}
 use Rattle.std.proofs.lemmas.Bool.{cases_eq, eq-eqb, ne_eqb, or_parts, or_right, or_left, or_from}
-use Rattle.network.specs.Rows.{fanin}
+use Rattle.std.specs.List.{list_any}
+use Rattle.std.proofs.lemmas.List.Folds.{list_any_more}
+use Rattle.network.specs.Rows.{fanin, no_signal, Legal}
+use Rattle.network.specs.declared.row.Signal.{Signal}
 use Rattle.network.specs.Nets.{Net, nodes, size, row_at}
 use Rattle.network.specs.declared.row.Row.{Row}
 use Rattle.theory.specs.Values.{Lowers}
@@ -12,14 +15,23 @@ use Rattle.logic.specs.Depends.{any_marked, depend_step, dependents}
 use Rattle.logic.proofs.Fronts.{Front}
 use Rattle.logic.proofs.Builds as builds
 
--- one marked fanin
-pub any-one : (r : Row) (marks : ℕ → Bool) (n i : ℕ) → i < n → marks (fanin r i) ≡ true → any_marked r marks n ≡ true
-any-one r marks zero i h e = absurd (omega arith)
-any-one r marks (suc n) i h e =
-    ⊎_elim
-    (λ (same : i ≡ n). or_right (any_marked r marks n) (marks (fanin r n)) (ap (λ k. marks (fanin r k)) (sym same) ∙ e))
-    (λ ne. or_left (any_marked r marks n) (marks (fanin r n)) (any-one r marks n i (let l : i < n = omega arith in l) e))
-    (cases_eq i n)
+-- the fanins that are used, as a list
+any-listed-to : (r : Row) (marks : ℕ → Bool) (n : ℕ) → n ≤ length r.fanins → list_any (λ f. marks f.0) (take n r.fanins) ≡ any_marked r marks n
+any-listed-to r marks zero h = refl
+any-listed-to r marks (suc n) h =
+    let below = any-listed-to r marks n (omega arith) in
+    ap (λ k. list_any (λ (f : Signal). marks f.0) (take k r.fanins)) (sym (add-one n)) ∙ list_any_more (λ (f : Signal). marks f.0) r.fanins n no_signal (omega arith) ∙ ap (λ b. b || marks (fanin r n)) below
+
+pub any-listed : (s : ℕ) (r : Row) (fs : List Signal) (marks : ℕ → Bool) → Legal s r → fs ≡ take r.count r.fanins → list_any (λ f. marks f.0) fs ≡ any_marked r marks r.count
+any-listed s r fs marks legal is = ap (list_any (λ (f : Signal). marks f.0)) is ∙ any-listed-to r marks r.count (omega (arith, legal.few, legal.places))
+
+-- they are lower signals
+pub used-lower : (s : ℕ) (r : Row) (fs : List Signal) → Legal s r → fs ≡ take r.count r.fanins → (i : ℕ) → i < length fs → (get_or fs i no_signal).0 < s
+used-lower s r fs legal is i h =
+    let long : length fs ≡ r.count = ap length is ∙ length-take-le r.count r.fanins (omega (arith, legal.few, legal.places)) in
+    let lt : i < r.count = omega arith in
+    let here : (get_or fs i no_signal).0 ≡ fanin r i = ap (λ l. (get_or l i no_signal).0) is ∙ ap (λ f. f.0) (get_or-take r.count r.fanins i no_signal lt) in
+    omega (arith, legal.lower i lt)
 
 -- no marked fanin
 pub any_none : (r : Row) (marks : ℕ → Bool) (n i : ℕ) → any_marked r marks n ≡ false → i < n → marks (fanin r i) ≡ false

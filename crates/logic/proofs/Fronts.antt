@@ -1,9 +1,10 @@
 -- A list whose front is written over, place by place.
 use Rattle.std.proofs.Common.{◌≡◌, ℕ, ◌+◌, ◌-◌, ◌<◌, ◌≤◌, List, ◌++◌, map, length, get_or, take, drop, set, sym, refl, ap, ◌∙◌, arith}
-use Rattle.std.proofs.lemmas.List.{take_more_same, take-set, take_all, take_at, take-append-drop, drop-set-lt, drop-drop, length-set, get_or-set_same, get_or_append_left, get_or-take}
+use Rattle.std.proofs.lemmas.List.{take_more_same, same_lists, take-set, take_all, take_at, take-append-drop, drop-set-lt, drop-drop, length-set, get_or-set_same, get_or_append_left, get_or-take}
 use Rattle.std.specs.List.{range_with_len}
 use Rattle.std.proofs.lemmas.List.FromFn.{length-map-range_with_len, get_or-map-range_with_len}
 use Rattle.std.proofs.lemmas.Slice.{drop-append-drop}
+use Rattle.logic.specs.Folds.{Holds}
 use Rattle.logic.specs.Walks.{over}
 
 -- vs has the first m of ws, and behind them what es has there
@@ -56,18 +57,17 @@ front-then vs ss ws es m j h f g =
       rest = g.rest ∙ ap (λ n. drop n ss) e ∙ sym (drop-drop (m - j) j ss) ∙ ap (drop (m - j)) f.rest ∙ drop-drop (m - j) j es ∙ ap (λ n. drop n es) (sym e);
     }
 
--- a loop that writes f i at each place i below n
-pub counted_none : {V : Type 0} (f : ℕ → V) (n : ℕ) (es : List V) → Front es 0 (map f (range_with_len 0 n)) es
-counted_none f n es = front-none es (map f (range_with_len 0 n)) 0 refl
-
-pub counted-more : {V : Type 0} (f : ℕ → V) (n : ℕ) (vs es : List V) (i : ℕ) (v : V) → i < n → i < length vs → v ≡ f i → Front vs i (map f (range_with_len 0 n)) es → Front (set vs i v) (i + 1) (map f (range_with_len 0 n)) es
-counted-more f n vs es i v h room is g =
-    let z : 0 + i ≡ i = omega arith in
-    let l : i < length (map f (range_with_len 0 n)) = omega (arith, length-map-range_with_len f 0 n) in
-    front-more vs (map f (range_with_len 0 n)) es i v v room l (is ∙ sym (get_or-map-range_with_len f 0 n i i v h z)) g
-
-pub counted-all : {V : Type 0} (f : ℕ → V) (n : ℕ) (vs es : List V) (i : ℕ) → i ≡ n → Front vs i (map f (range_with_len 0 n)) es → vs ≡ over (map f (range_with_len 0 n)) es
-counted-all f n vs es i e g = front-all vs (map f (range_with_len 0 n)) es i (length-map-range_with_len f 0 n ∙ sym e) g
+-- f i at each place i below n, in front of the rest of es
+pub counted_put : {V : Type 0} (f : ℕ → V) (n m : ℕ) (ws es : List V) → m ≡ n → length ws ≡ n → Holds ws n f → ws ++ drop m es ≡ over (map f (range_with_len 0 n)) es
+counted_put {V} f n m ws es is long held =
+    let cs : List V = map f (range_with_len 0 n) in
+    let size : length cs ≡ n = length-map-range_with_len f 0 n in
+    let same : ws ≡ cs = same_lists ws cs (long ∙ sym size)
+        (λ i d h.
+        let l : i < n = omega arith in
+        let z : 0 + i ≡ i = omega arith in
+        held i d l ∙ sym (get_or-map-range_with_len f 0 n i i d l z)) in
+    ap (λ l. l ++ drop m es) same ∙ ap (λ k. cs ++ drop k es) (is ∙ sym size)
 
 pub counted-at : {V : Type 0} (f : ℕ → V) (n : ℕ) (es : List V) (i : ℕ) (d : V) → i < n → get_or (over (map f (range_with_len 0 n)) es) i d ≡ f i
 counted-at f n es i d h =

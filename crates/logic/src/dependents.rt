@@ -1,27 +1,21 @@
 //! The signals that depend on a node.
-ghost use Rattle.std.specs.Prelude.{◌≡◌, ◌<◌, ◌≤◌, false, length, drop, replicate, slice_index_or};
-ghost use Rattle.network.specs.Limits.{max_fanins};
-ghost use Rattle.network.specs.Rows.{Lower};
+ghost use Rattle.std.specs.Prelude.{◌≡◌, ℕ, ◌<◌, ◌≤◌, false, length, drop, replicate, slice_index_or};
+ghost use Rattle.std.specs.List.{list_any};
+ghost use Rattle.network.specs.Rows.{no_signal};
 ghost use Rattle.network.specs.Nets.{size, nodes};
 ghost use Rattle.network.specs.Parts.{net_of};
 ghost use Rattle.logic.specs.Walks.{over};
-ghost use Rattle.logic.specs.Depends.{any_marked, Marked};
+ghost use Rattle.logic.specs.Depends.{Marked};
 
 use network::network::Network;
-use network::row::Row;
+use network::row::Signal;
 
-/// Whether a fanin is marked.
-fn reads_marked(row: &Row, marks: &[bool]) -> bool
-    requires few { row.now.count ≤ max_fanins }
-    requires lower { Lower (length marks.now) row.now }
-    ensures { result ≡ any_marked row.now (λ s. slice_index_or marks.now s false) row.now.count }
+/// Whether one of some fanins is marked.
+fn reads_marked(fanins: &[Signal], marks: &[bool]) -> bool
+    requires { (i : ℕ) → i < length fanins.now → (slice_index_or fanins.now i no_signal).0 < length marks.now }
+    ensures { result ≡ list_any (λ f. slice_index_or marks.now f.0 false) fanins.now }
 {
-    for i in 0..row.count as usize {
-        if marks[row.fanins[i].0 as usize] {
-            return true;
-        }
-    }
-    false
+    fanins.iter().any(|fanin| marks[fanin.0 as usize])
 }
 
 /// Unmarks the first `count` signals.
@@ -40,9 +34,8 @@ pub fn mark_dependents(network: &Network, target: usize, marks: &mut [bool])
     ensures rest { drop (size (net_of network.now)) marks.new ≡ drop (size (net_of network.now)) marks.old }
 {
     let inputs = network.inputs();
-    let rows = network.rows();
     unmark(inputs, marks);
-    for n in 0..rows.len() {
-        marks[inputs + n] = (n == target) | reads_marked(&rows[n], marks);
+    for (n, row) in network.rows().iter().enumerate() {
+        marks[inputs + n] = (n == target) | reads_marked(row.used(), marks);
     }
 }

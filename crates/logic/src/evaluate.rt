@@ -16,32 +16,15 @@ use network::limits::{MAX_SIGNALS, MINTERMS};
 use network::network::Network;
 use network::row::{Assignment, Signal};
 
-/// Bit i of an assignment.
-fn bit(x: Assignment, i: usize) -> bool
-    requires { i < word_bits }
-    ensures { result ≡ (x.0 / 2 ^ i % 2 == 1) }
-{
-    (x.0 >> i) % 2 == 1
-}
-
 /// Puts the bits of an assignment as the leaves' values.
 pub fn put_bits(x: Assignment, count: usize, values: &mut [bool])
     requires few { count ≤ word_bits }
     requires room { count ≤ length values.old }
     ensures { values.new ≡ over (map (bit_at x.0) (range_with_len 0 count)) values.old }
 {
-    for i in 0..count {
-        values[i] = bit(x, i);
+    for (i, value) in values[0..count].iter_mut().enumerate() {
+        *value = (x.0 >> i) % 2 == 1;
     }
-}
-
-/// The value of the signal j of some signals.
-fn value_of<T: Copy>(signals: &[Signal], values: &[T], j: usize) -> T
-    requires within { j < length signals.now }
-    requires signal { (get_or signals.now j no_signal).0 < length values.now }
-    ensures { result ≡ slice_index_or values.now (get_or signals.now j no_signal).0 result }
-{
-    values[signals[j].0 as usize]
 }
 
 /// The number whose bit j is the value of the signal j of some signals.
@@ -50,8 +33,9 @@ fn gather(signals: &[Signal], values: &[bool]) -> u64
     ensures { result ≡ number (λ j. get_or values.now (get_or signals.now j no_signal).0 false) (min (length signals.now) word_bits) }
 {
     let mut bits = 0u64;
-    for j in 0..signals.len().min(WORD_BITS) {
-        if value_of(signals, values, j) {
+    let count = signals.len().min(WORD_BITS);
+    for (j, signal) in signals[0..count].iter().enumerate() {
+        if values[signal.0 as usize] {
             bits += 1u64 << j;
         }
     }
@@ -76,8 +60,9 @@ fn put_words(signals: &[Signal], values: &[u64], words: &mut [u64])
     requires { (j : ℕ) → j < length signals.now → (get_or signals.now j no_signal).0 < length values.now }
     ensures { words.new ≡ over (map (λ j. slice_index values.now (get_or signals.now j no_signal).0) (range_with_len 0 (min (length signals.now) (length words.old)))) words.old }
 {
-    for j in 0..signals.len().min(words.len()) {
-        words[j] = value_of(signals, values, j);
+    let count = signals.len().min(words.len());
+    for (j, word) in words[0..count].iter_mut().enumerate() {
+        *word = values[signals[j].0 as usize];
     }
 }
 

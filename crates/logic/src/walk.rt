@@ -23,10 +23,7 @@ pub(crate) fn inverse<L: Logic>(v: L::Value) -> L::Value
 fn is_turned(turn: Option<Signal>, signal: usize) -> bool
     ensures { result ≡ turns (turn_of turn) signal }
 {
-    match turn {
-        Some(t) => t.0 as usize == signal,
-        None => false,
-    }
+    turn.is_some_and(|t| t.0 as usize == signal)
 }
 
 /// The value of a signal, inverted if it is the one to invert.

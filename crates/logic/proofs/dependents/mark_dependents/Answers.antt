@@ -9,17 +9,17 @@ use Rattle.theory.proofs.Values.{lowers}
 use Rattle.logic.specs.Walks.{over}
 use Rattle.logic.specs.Depends.{any_marked, dependents}
 use Rattle.logic.proofs.Fronts.{Front}
-use Rattle.logic.proofs.Depends.{eqb-add, behind, depends, depends-size, marks-none, marks-next, marks-more}
+use Rattle.logic.proofs.Depends.{any-listed, used-lower, eqb-add, behind, depends, depends-size, marks-none, marks-next, marks-more}
 use Rattle.logic.proofs.dependents.mark_dependents.Goals as goal
 
 pub reads_marked-requires : goal.reads_marked-requires
-reads_marked-requires c =
+reads_marked-requires c i h =
     let net : Net = net_of c.args.network.now in
     let n : ℕ = c.loop-n.n in
-    let same : c.rows-rows.result.now ≡ net.rows = c.rows-rows.ensures.value in
+    let same : c.rows-row-items.result.now ≡ net.rows = c.rows-row-items.ensures.value in
     let lt : n < nodes net = omega (arith, ap length same) in
-    let legal : Legal (net.inputs + n) (get_or c.rows-rows.result.now n blank) = subst⁻¹ (λ (rs : List Row). Legal (net.inputs + n) (get_or rs n blank)) same (c.rows-rows.ensures.legal.row n lt) in
-    record { few = legal.few; lower = λ i h. omega (arith, legal.lower i h) }
+    let legal : Legal (net.inputs + n) (get_or c.rows-row-items.result.now n blank) = subst⁻¹ (λ (rs : List Row). Legal (net.inputs + n) (get_or rs n blank)) same (c.rows-row-items.ensures.legal.row n lt) in
+    omega (arith, used-lower (net.inputs + n) (get_or c.rows-row-items.result.now n blank) c.used.result.now legal c.used.ensures.value i h)
 
 pub loop-n-init : goal.loop-n-init
 loop-n-init c =
@@ -27,7 +27,7 @@ loop-n-init c =
     let t : ℕ = net.inputs + c.args.target in
     let is : c.unmark.new.marks ≡ over (replicate net.inputs false) c.args.marks.now =
     c.unmark.ensures ∙ ap (λ k. over (replicate k false) c.args.marks.now) c.inputs-inputs.ensures in
-    subst⁻¹ (λ (vs : List Bool). Front vs (net.inputs + 0) (dependents t net) vs) is (marks-none t net (lowers c.rows-rows.ensures.legal) c.args.marks.now)
+    subst⁻¹ (λ (vs : List Bool). Front vs (net.inputs + 0) (dependents t net) vs) is (marks-none t net (lowers c.rows-row-items.ensures.legal) c.args.marks.now)
 
 pub loop-n-preserved : goal.loop-n-preserved
 loop-n-preserved c =
@@ -38,13 +38,15 @@ loop-n-preserved c =
     let vs = c.loop-n.marks in
     let es = c.unmark.new.marks in
     let v : Bool = eqb n c.args.target || c.reads_marked.result in
-    let low = lowers c.rows-rows.ensures.legal in
-    let same : c.rows-rows.result.now ≡ net.rows = c.rows-rows.ensures.value in
+    let low = lowers c.rows-row-items.ensures.legal in
+    let same : c.rows-row-items.result.now ≡ net.rows = c.rows-row-items.ensures.value in
     let place : c.inputs-inputs.result ≡ k = c.inputs-inputs.ensures in
+    let row : Row = get_or c.rows-row-items.result.now n blank in
     let lt : n < nodes net = omega (arith, ap length same) in
+    let legal : Legal (k + n) row = subst⁻¹ (λ (rs : List Row). Legal (k + n) (get_or rs n blank)) same (c.rows-row-items.ensures.legal.row n lt) in
     let room : size net ≤ length vs = omega arith in
     let any : c.reads_marked.result ≡ any_marked (row_at net n) (λ s. get_or vs s false) (row_at net n).count =
-    c.reads_marked.ensures ∙ ap (λ (rs : List Row). any_marked (get_or rs n blank) (λ s. get_or vs s false) (get_or rs n blank).count) same in
+    c.reads_marked.ensures ∙ any-listed (k + n) row c.used.result.now (λ s. get_or vs s false) legal c.used.ensures.value ∙ ap (λ (rs : List Row). any_marked (get_or rs n blank) (λ s. get_or vs s false) (get_or rs n blank).count) same in
     let is : v ≡ depends t net low (k + n) =
     ap (λ b. b || c.reads_marked.result) (eqb-add k n c.args.target) ∙ ap (λ b. eqb (k + n) t || b) any ∙ marks-next t net low vs es n lt c.loop-n.invariant in
     subst⁻¹ (λ (m : ℕ). Front (set vs (m + n) v) (k + (n + 1)) (dependents t net) es) place (marks-more t net low vs es n v lt room c.loop-n.invariant is)
@@ -54,8 +56,8 @@ returns c =
     let net : Net = net_of c.args.network.now in
     let t : ℕ = net.inputs + c.args.target in
     let vs = c.loop-n.marks in
-    let low = lowers c.rows-rows.ensures.legal in
-    let all : net.inputs + c.loop-n.n ≡ size net = omega (arith, ap length c.rows-rows.ensures.value) in
+    let low = lowers c.rows-row-items.ensures.legal in
+    let all : net.inputs + c.loop-n.n ≡ size net = omega (arith, ap length c.rows-row-items.ensures.value) in
     let whole : length (dependents t net) ≤ size net = omega (arith, depends-size t net low) in
     let place : c.inputs-inputs.result ≤ size net = omega arith in
     record {

@@ -1,17 +1,15 @@
-use Rattle.std.proofs.Common.{false, get_or, sym, ap, ◌∙◌, add-one}
-use Rattle.std.proofs.lemmas.Bool.{or_from}
-use Rattle.network.specs.Rows.{fanin}
-use Rattle.logic.specs.Depends.{any_marked}
-use Rattle.logic.proofs.Depends.{any-one}
+use Rattle.std.proofs.Common.{◌<◌, length, ap, ◌∙◌, arith, rules}
+use Rattle.std.proofs.lemmas.Iterator.{YieldsList-from_slice}
+use Rattle.std.proofs.lemmas.Iterator.Adapters.{serves_from_places}
+use Rattle.std.proofs.lemmas.List.{get_or_default}
+use Rattle.network.specs.Rows.{no_signal}
 use Rattle.logic.proofs.dependents.reads_marked.Goals as goal
 
-pub returns-then-marks-row : goal.returns-then-marks-row
-returns-then-marks-row c =
-    sym (any-one c.args.row.now (λ s. get_or c.args.marks.now s false) c.args.row.now.count c.loop-i.i c.loop-i-test.true c.if-marks-row.true)
-
-pub loop-i-preserved : goal.loop-i-preserved
-loop-i-preserved c =
-    let row = c.args.row.now in
-    let i = c.loop-i.i in
-    ap (any_marked row (λ s. get_or c.args.marks.now s false)) (add-one i) ∙
-    or_from (any_marked row (λ s. get_or c.args.marks.now s false) i) (get_or c.args.marks.now (fanin row i) false) c.loop-i.invariant c.if-marks-row.false
+pub any-requires-clause-callable : goal.any-requires-clause-callable
+any-requires-clause-callable c =
+    let fs = c.args.fanins.now in
+    serves_from_places (YieldsList-from_slice fs (search rules)) (λ x q k. search rules)
+    (λ x k h is.
+    let same = is ∙ get_or_default fs k x.now no_signal h in
+    let inside : x.now.0 < length c.args.marks.now = omega (arith, ap (λ s. s.0) same, c.requires k h) in
+    search rules)

@@ -1,19 +1,18 @@
-use Rattle.std.proofs.Common.{◌≡◌, ℕ, ◌<◌, length, arith}
+use Rattle.std.proofs.Common.{◌≡◌, ℕ, ◌-◌, length, take, refl, ◌∙◌, arith}
+use Rattle.std.proofs.lemmas.List.{length-take-le}
 use Rattle.network.specs.Rows.{bit_at}
-use Rattle.logic.proofs.Fronts.{counted_none, counted-more, counted-all}
+use Rattle.logic.proofs.Fronts.{counted_put}
+use Rattle.logic.proofs.Places.{put}
 use Rattle.logic.proofs.evaluate.put_bits.Goals as goal
-
-pub loop-i-init : goal.loop-i-init
-loop-i-init c = counted_none (bit_at c.args.x.0) c.args.count c.args.values.now
 
 pub loop-i-preserved : goal.loop-i-preserved
 unfolding bit_at
-loop-i-preserved c =
-    let i : ℕ = c.loop-i.i in
-    let room : i < length c.loop-i.values = omega arith in
-    counted-more (bit_at c.args.x.0) c.args.count c.loop-i.values c.args.values.now i c.bit.result c.loop-i-test.true room c.bit.ensures c.loop-i.invariant
+loop-i-preserved c = put c.loop-i.value-items c.loop-i.i _ (bit_at c.args.x.0) (omega arith) c.loop-i.invariant refl
 
 pub returns : goal.returns
 returns c =
-    let all : c.loop-i.i ≡ c.args.count = omega arith in
-    counted-all (bit_at c.args.x.0) c.args.count c.loop-i.values c.args.values.now c.loop-i.i all c.loop-i.invariant
+    let n : ℕ = c.args.count in
+    let whole : n - 0 ≡ n = omega arith in
+    let long : length (take (n - 0) c.args.values.now) ≡ n = length-take-le (n - 0) c.args.values.now (omega arith) ∙ whole in
+    let items : length c.loop-i.value-items ≡ n = omega arith in
+    counted_put (bit_at c.args.x.0) n (n - 0) c.loop-i.value-items c.args.values.now whole items (λ i d h. c.loop-i.invariant i d (omega arith))

@@ -1,12 +1,15 @@
-use Rattle.std.proofs.Common.{sym, ap}
+use Rattle.std.proofs.Common.{◌≡◌, ℕ, Bool, false, eqb, Some, None, Option, rules}
+use Rattle.std.specs.Option.{MatchOption}
+use Rattle.network.specs.declared.row.Signal.{Signal}
 use Rattle.theory.specs.Values.{turns}
 use Rattle.logic.specs.Walks.{turn_of}
 use Rattle.logic.proofs.walk.is_turned.Goals as goal
 
-pub returns-in-Some : goal.returns-in-Some
+-- what holds of the signal to invert, if there is one
+decided : (o : Option Signal) (r : Bool) (s : ℕ) {P : Signal → Type 0} → MatchOption o (r ≡ false) P → ((t : Signal) → P t → r ≡ eqb t.0 s) → r ≡ turns (turn_of o) s
 unfolding turns
-returns-in-Some c = ap (λ t. turns (turn_of t) c.args.signal) (sym c.in-Some.is)
+decided None r s h f = h
+decided (Some t) r s h f = f t h
 
-pub returns-in-None : goal.returns-in-None
-unfolding turns
-returns-in-None c = ap (λ t. turns (turn_of t) c.args.signal) (sym c.in-None.is)
+pub returns : goal.returns
+returns c = decided c.args.turn c.is_some_and.result c.args.signal c.is_some_and.ensures (λ t p. search rules)
