@@ -30,15 +30,14 @@ fn put_picks<L: Logic>(s: L::Value, picks: &mut [L::Value])
     picks[3] = L::pick(s, one, one);
 }
 
-/// Puts the pick of each of the first `size` pairs of a function's bits.
-fn put_pairs<L: Logic>(function: &Function, picks: &[L::Value], size: usize, fold: &mut [L::Value])
-    requires few { size + size ≤ minterms }
+/// Puts the pick of each pair of a function's bits, as far as there is room.
+fn put_pairs<L: Logic>(function: &Function, picks: &[L::Value], fold: &mut [L::Value])
+    requires few { length fold.old + length fold.old ≤ minterms }
     requires four { 4 ≤ length picks.now }
-    requires room { size ≤ length fold.old }
-    ensures { (at : Bool → Bool → L.Value) → Holds picks.now 4 (λ k. at (bit_at k 1) (bit_at k 0)) → Holds fold.new size (λ i. at (bit_of function.now (2 * i + 1)) (bit_of function.now (2 * i))) }
+    ensures { (at : Bool → Bool → L.Value) → Holds picks.now 4 (λ k. at (bit_at k 1) (bit_at k 0)) → Holds fold.new (length fold.old) (λ i. at (bit_of function.now (2 * i + 1)) (bit_of function.now (2 * i))) }
 {
-    for i in 0..size {
-        fold[i] = picks[bit_pair(function, i)];
+    for (i, place) in fold.iter_mut().enumerate() {
+        *place = picks[bit_pair(function, i)];
     }
 }
 
@@ -47,6 +46,7 @@ fn halve<L: Logic>(s: L::Value, size: usize, fold: &mut [L::Value])
     requires { size + size ≤ length fold.old }
     ensures { (at : ℕ → L.Value) → Holds fold.old (size + size) at → Holds fold.new size (λ i. L.Logic.picks s (at (2 * i + 1)) (at (2 * i))) }
 {
+    // Pairs are read ahead of the place that is written, so no iterator can lend both.
     for i in 0..size {
         fold[i] = L::pick(s, fold[2 * i + 1], fold[2 * i]);
     }
@@ -61,9 +61,9 @@ fn fold_further<L: Logic>(row: &Row, values: &[L::Value], fold: &mut [L::Value])
     ensures { (d : L.Value) → Holds fold.old (2 ^ (row.now.count - 1)) (folded_at L.Logic.picks L.Logic.constants row.now (λ s. slice_index_or values.now s d) 1) → result ≡ node_of L.Logic.picks L.Logic.constants row.now (λ s. slice_index_or values.now s d) }
 {
     let mut size = 1usize << (row.count - 1);
-    for j in 1..row.count as usize {
+    for fanin in &row.fanins[1..row.count as usize] {
         size /= 2;
-        halve::<L>(values[row.fanins[j].0 as usize], size, fold);
+        halve::<L>(values[fanin.0 as usize], size, fold);
     }
     fold[0]
 }
@@ -81,6 +81,6 @@ pub fn node_value<L: Logic>(row: &Row, values: &[L::Value], fold: &mut [L::Value
     }
     let (picks, rest) = fold.split_at_mut(4);
     put_picks::<L>(values[row.fanins[0].0 as usize], picks);
-    put_pairs::<L>(&row.function, picks, 1usize << (row.count - 1), rest);
+    put_pairs::<L>(&row.function, picks, &mut rest[0..1usize << (row.count - 1)]);
     fold_further::<L>(row, values, rest)
 }
