@@ -63,10 +63,10 @@ counted_put {V} f n m ws es is long held =
     let cs : List V = map f (range_with_len 0 n) in
     let size : length cs ≡ n = length-map-range_with_len f 0 n in
     let same : ws ≡ cs = same_lists ws cs (long ∙ sym size)
-        (λ i d h.
-        let l : i < n = omega arith in
-        let z : 0 + i ≡ i = omega arith in
-        held i d l ∙ sym (get_or-map-range_with_len f 0 n i i d l z)) in
+    (λ i d h.
+    let l : i < n = omega arith in
+    let z : 0 + i ≡ i = omega arith in
+    held i d l ∙ sym (get_or-map-range_with_len f 0 n i i d l z)) in
     ap (λ l. l ++ drop m es) same ∙ ap (λ k. cs ++ drop k es) (is ∙ sym size)
 
 pub counted-at : {V : Type 0} (f : ℕ → V) (n : ℕ) (es : List V) (i : ℕ) (d : V) → i < n → get_or (over (map f (range_with_len 0 n)) es) i d ≡ f i

@@ -81,6 +81,10 @@ pub fn node_value<L: Logic>(row: &Row, values: &[L::Value], fold: &mut [L::Value
     }
     let (picks, rest) = fold.split_at_mut(4);
     put_picks::<L>(values[row.fanins[0].0 as usize], picks);
-    put_pairs::<L>(&row.function, picks, &mut rest[0..1usize << (row.count - 1)]);
+    put_pairs::<L>(
+        &row.function,
+        picks,
+        &mut rest[0..1usize << (row.count - 1)],
+    );
     fold_further::<L>(row, values, rest)
 }

@@ -55,5 +55,12 @@ pub fn walk_needed<L: Logic>(
 {
     walk_wanted::<L, _>(network, 0, None, |s| needed[s], plain, fold);
     put_inverted::<L>(network.signals(), network.inputs() + target, plain, turned);
-    walk_wanted::<L, _>(network, target + 1, None, |s| needed[s] & marks[s], turned, fold);
+    walk_wanted::<L, _>(
+        network,
+        target + 1,
+        None,
+        |s| needed[s] & marks[s],
+        turned,
+        fold,
+    );
 }

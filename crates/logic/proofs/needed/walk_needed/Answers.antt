@@ -44,7 +44,7 @@ returns g c =
     let again : Passed p of None net (t + 1) (nodes net) (λ s. is_in needed s && is_in marks s) ss vs = c.walk_wanted-2.ensures (λ s. is_in needed s && is_in marks s) (λ s b h q. search rules) in
     let space : size net ≤ length vs = omega arith in
     let turned = where_at p of (Some T) net low leaves long needed vs space
-        (passed_again p of net low leaves long t c.requires.aimed needed marks ws es ss vs c.requires.closed c.requires.marked room first entered again) in
+    (passed_again p of net low leaves long t c.requires.aimed needed marks ws es ss vs c.requires.closed c.requires.marked room first entered again) in
     record {
       plain = plain;
       turned = turned;

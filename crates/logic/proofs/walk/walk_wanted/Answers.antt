@@ -52,14 +52,14 @@ loop-n-preserved g c is post =
     subst⁻¹ (λ (k : ℕ). Passed p of turn net f k is es c.if-wanted.values) z
     (elim c.if-wanted.branch [
       | then-wanted w ↦
-        let v : V = w.turned.result in
-        let value : (d : V) → v ≡ node_step p of turn (net.inputs + m) (row_at net m) (λ s. get_or vs s d) =
-        λ d. w.turned.ensures ∙ ap (λ k. turned_of p of (turns turn k) w.node_value-v.result) there ∙
-        ap (turned_of p of (turns turn (net.inputs + m))) (w.node_value-v.ensures d ∙ ap (λ r. node_of p of r (λ s. get_or vs s d)) (rest-row rows net.rows f c.loop-n.n c.rows.ensures.value inner)) in
-        subst⁻¹ (λ (ws : List V). Passed p of turn net f (m + 1) is es ws) (w.values-is ∙ ap (λ k. set vs k v) there)
-        (passed-make p of turn net f is es low vs m v up lt room (sym told ∙ w.if-wanted.true) value inv)
+          let v : V = w.turned.result in
+          let value : (d : V) → v ≡ node_step p of turn (net.inputs + m) (row_at net m) (λ s. get_or vs s d) =
+          λ d. w.turned.ensures ∙ ap (λ k. turned_of p of (turns turn k) w.node_value-v.result) there ∙
+          ap (turned_of p of (turns turn (net.inputs + m))) (w.node_value-v.ensures d ∙ ap (λ r. node_of p of r (λ s. get_or vs s d)) (rest-row rows net.rows f c.loop-n.n c.rows.ensures.value inner)) in
+          subst⁻¹ (λ (ws : List V). Passed p of turn net f (m + 1) is es ws) (w.values-is ∙ ap (λ k. set vs k v) there)
+          (passed-make p of turn net f is es low vs m v up lt room (sym told ∙ w.if-wanted.true) value inv)
       | else-wanted w ↦
-        subst⁻¹ (λ (ws : List V). Passed p of turn net f (m + 1) is es ws) w.values-is (passed-skip p of turn net f is es vs m (sym told ∙ w.if-wanted.false) inv)
+          subst⁻¹ (λ (ws : List V). Passed p of turn net f (m + 1) is es ws) w.values-is (passed-skip p of turn net f is es vs m (sym told ∙ w.if-wanted.false) inv)
     ])
 
 pub returns : goal.returns
