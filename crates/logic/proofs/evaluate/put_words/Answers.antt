@@ -1,12 +1,8 @@
-use Rattle.std.proofs.Common.{◌≡◌, ℕ, ◌-◌, min, length, get_or, take, refl, ◌∙◌, arith}
+use Rattle.std.proofs.Common.{◌≡◌, ℕ, ◌-◌, min, length, get_or, take, ◌∙◌, arith}
 use Rattle.std.proofs.lemmas.List.{length-take-le}
 use Rattle.network.specs.Rows.{no_signal}
 use Rattle.logic.proofs.Fronts.{counted_put}
-use Rattle.logic.proofs.Places.{put}
 use Rattle.logic.proofs.evaluate.put_words.Goals as goal
-
-pub loop-j-preserved : goal.loop-j-preserved
-loop-j-preserved c = put c.loop-j.word-items c.loop-j.j _ (λ j. get_or c.args.values.now (get_or c.args.signals.now j no_signal).0 0) (omega arith) c.loop-j.invariant refl
 
 pub returns : goal.returns
 returns c =
