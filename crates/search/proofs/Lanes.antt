@@ -1,8 +1,24 @@
 -- What is read in a lane.
-use Rattle.std.proofs.Common.{◌≡◌, ℕ, ◌+◌, ◌^◌, ◌<◌, ◌≤◌, Bool, true, false, cond, not, List, get_or, sym, refl, ap, ◌∙◌, add-one, arith}
+use Rattle.std.proofs.Common.{Bool, List, None, Option, Some, [], add-one, ap, ap₂, arith, cond, false, get_or, length, not, refl, subst, suc, sym, true, zero, zero-le, ℕ, ◌+◌, ◌<◌, ◌^◌, ◌||◌, ◌∙◌, ◌∷◌, ◌≡◌, ◌≤◌}
 use mathlib.Core.Path.{subst⁻¹}
 use mathlib.Core.Bool.{xor, beq}
 use Rattle.std.proofs.lemmas.Nat.{pow_below}
+use denote.Param.Members.{Mut}
+use denote.Ref.{Bor}
+use Rattle.std.specs.Option.{MatchOption}
+use Rattle.std.specs.Bool.{⊤}
+use Rattle.std.specs.Fn.{CalledAt}
+use Rattle.std.specs.Iterator.{YieldsThen}
+use Rattle.std.proofs.iter.Yields.{nat_range_steps}
+use Rattle.std.proofs.lemmas.Iterator.{first_from_Range}
+use Rattle.std.specs.List.{list_any, FoldsTo}
+use Rattle.std.specs.declared.ops.Range.{Range}
+use Rattle.network.specs.Rows.{no_signal}
+use Rattle.context.specs.Care.{any_below, differs}
+use Rattle.context.proofs.Any.{any_same}
+use Rattle.window.specs.declared.extracted.Context.{Context}
+use Rattle.search.specs.Contexts.{net_in}
+use Rattle.search.specs.Lanes.{unlike, Shown, Lowest}
 use Rattle.theory.specs.Values.{number}
 use Rattle.theory.proofs.Numbers.{pow-twice}
 use Rattle.logic.specs.Lanes.{LaneRow}
@@ -27,25 +43,56 @@ step-below i y y' b low new =
     let up : 2 ^ (i + 1) ≡ 2 ^ i + 2 ^ i = ap (λ n. 2 ^ n) (add-one i) ∙ pow-twice i in
     omega (arith, bit-most b (2 ^ i))
 
--- room for one bit more of a minterm
-pub step_room : (i y : ℕ) → i < 8 → y < 2 ^ i → y + 2 ^ i < 65536
-step_room i y h low = omega (arith, pow_below i 8 h)
-
--- and of an assignment
-pub word_room : (i y : ℕ) → i < 32 → y < 2 ^ i → y + 2 ^ i < 18446744073709551616
-word_room i y h low = omega (arith, pow_below i 32 h)
-
 -- two bits that were compared
-pub xor-like : (a b : Bool) → not (beq a b) ≡ false → xor a b ≡ false
+pub xor-compared : (a b : Bool) → not (beq a b) ≡ xor a b
 unfolding xor
-xor-like true true e = refl
-xor-like true false e = e
-xor-like false true e = e
-xor-like false false e = refl
+xor-compared true true = refl
+xor-compared true false = refl
+xor-compared false true = refl
+xor-compared false false = refl
 
-pub xor-unlike : (a b : Bool) → not (beq a b) ≡ true → xor a b ≡ true
-unfolding xor
-xor-unlike true true e = e
-xor-unlike true false e = refl
-xor-unlike false true e = refl
-xor-unlike false false e = e
+or_swap : (a b c : Bool) → (a || (b || c)) ≡ (b || (a || c))
+or_swap true true c = refl
+or_swap true false c = refl
+or_swap false b c = refl
+
+any_first : (n : ℕ) (p : ℕ → Bool) → any_below (suc n) p ≡ (p 0 || any_below n (λ j. p (suc j)))
+unfolding any_below
+any_first zero p = refl
+any_first (suc n) p = ap (λ b. p (suc n) || b) (any_first n p) ∙ or_swap (p (suc n)) (p 0) (any_below n (λ j. p (suc j)))
+
+-- a test of some element, by its place
+any-listed : {X : Type 0} (p : X → Bool) (xs : List X) (e : X) → list_any p xs ≡ any_below (length xs) (λ j. p (get_or xs j e))
+unfolding any_below
+any-listed p [] e = refl
+any-listed p (x ∷ xs) e = ap (λ b. p x || b) (any-listed p xs e) ∙ sym (any_first (length xs) (λ j. p (get_or (x ∷ xs) j e)))
+
+-- the roots differ in lane l as they do under its assignment
+pub differs-shown : {V : Type 0} (admits : V → LaneRow → Type 0) (row : V → LaneRow) (n : ℕ) → ((v : V) (a : LaneRow) → admits v a → (l : ℕ) → l < n → a l ≡ row v l)
+    → (c : Context) (rows : ℕ → LaneRow) (plain turned : List V) (l : ℕ) (d : V) → l < n → Shown admits c rows plain turned
+    → list_any (unlike row plain turned l d) (net_in c).outputs ≡ differs (net_in c) c.target (λ i. rows i l)
+differs-shown admits row n one c rows plain turned l d h shown =
+    any-listed (unlike row plain turned l d) (net_in c).outputs no_signal
+    ∙ any_same (length (net_in c).outputs) _ _ (λ j k. ap₂ xor (sym (one _ _ (shown.roots j d k) l h)) (sym (one _ _ (shown.inverted j d k) l h)))
+
+not-passed : (b : Bool) → true ≡ not b → b ≡ false
+not-passed true e = e
+not-passed false e = refl
+
+not-failed : (b : Bool) → false ≡ not b → b ≡ true
+not-failed true e = refl
+not-failed false e = e
+
+lowest-found : (n : ℕ) (test : ℕ → Bool) (r : Option ℕ)
+    → MatchOption r ((k : ℕ) → 0 ≤ k → k < n → test k ≡ true) (λ l. (0 ≤ l) × (l < n) × (test l ≡ false) × ((k : ℕ) → 0 ≤ k → k < l → test k ≡ true))
+    → Lowest n test r
+lowest-found n test None all = λ l h. all l zero-le h
+lowest-found n test (Some l) found = (found.1, found.2, λ m h. found.3 m zero-le h)
+
+-- a search from 0 up finds the lowest number at which the test fails
+pub lowest-by : {F : Type 0} {g : Mut F (Bor ℕ × Unit {0}) Bool} (s u : Range ℕ) (f : F) (test : ℕ → Bool) (r : Option ℕ)
+    → (xs : List ℕ) × (j : F) × YieldsThen nat_range_steps s xs r u × FoldsTo (λ p x q. CalledAt g p x false q) f xs j × MatchOption r ⊤ (λ x. (h : F) × CalledAt g j x true h)
+    → ((x : ℕ) (b : Bool) (q : F) → CalledAt g f x b q → (q ≡ f) × (b ≡ not (test x))) → s.start ≡ 0 → Lowest s.end test r
+lowest-by s u f test r ran called from =
+    lowest-found s.end test r
+    (rw from at (first_from_Range s u f r (λ l. test l ≡ false) (λ l. test l ≡ true) ran (λ x q k. not-passed (test x) (called x true q k).1) (λ x q k. ((called x false q k).0, not-failed (test x) (called x false q k).1))))

@@ -4,6 +4,7 @@ use Rattle.network.specs.Rows.{bit_at}
 use Rattle.network.specs.Nets.{Net}
 use Rattle.network.specs.Parts.{net_of}
 use Rattle.context.specs.Care.{dull}
+use Rattle.logic.specs.Lanes.{LaneRow}
 use Rattle.window.specs.declared.extracted.Context.{Context}
 use Rattle.search.specs.Lists.{has}
 use Rattle.search.specs.declared.listed.Listed.{Listed}
@@ -19,6 +20,10 @@ space c = 2 ^ (net_in c).inputs
 -- under the leaf values x no minterm is shown that is not listed
 abbrev pub dull_of : Context → Listed → (ℕ → Bool) → Bool
 dull_of c l x = dull (net_in c) c.target (has l) x
+
+-- the same of the assignment of a lane, where leaf i has the row rows i
+unfoldable pub dull_in : Context → Listed → (ℕ → LaneRow) → ℕ → Bool
+dull_in c l rows lane = dull_of c l (λ i. rows i lane)
 
 -- the same of an assignment as a number
 unfoldable pub dull_at : Context → Listed → ℕ → Bool

@@ -1,5 +1,6 @@
 -- What the lanes of some values show.
 use Rattle.std.specs.Prelude.{◌≡◌, ℕ, ◌<◌, Bool, true, false, List, length, get_or, Some, None, Option, slice_index_or}
+use Rattle.std.specs.Bool.{xor}
 use Rattle.network.specs.Rows.{no_signal, fanin}
 use Rattle.network.specs.Nets.{row_at, output_at}
 use Rattle.network.specs.declared.row.Signal.{Signal}
@@ -21,6 +22,14 @@ AdmitEach {V} admits ss vs rows = (j : ℕ) (d : V) → j < length ss → admits
 -- the value of each fanin admits its row
 abbrev pub AdmitFanins : {V : Type 0} → (V → LaneRow → Type 0) → Row → List V → (ℕ → LaneRow) → Type 0
 AdmitFanins {V} admits r vs rows = (i : ℕ) (d : V) → i < r.count → admits (slice_index_or vs (fanin r i) d) (rows (fanin r i))
+
+-- x is item k of the list
+abbrev pub IsItem : {T : Type 0} → List T → ℕ → T → Type 0
+IsItem xs k x = (k < length xs) × (slice_index_or xs k x ≡ x)
+
+-- the values of a signal in two lists have different bits in lane l
+abbrev pub unlike : {V : Type 0} → (V → LaneRow) → List V → List V → ℕ → V → Signal → Bool
+unlike row plain turned l d s = xor (row (slice_index_or plain s.0 d) l) (row (slice_index_or turned s.0 d) l)
 
 -- the two walks' values admit, at the roots and at the target's fanins, the rows of the signals where leaf i has the row rows i
 pub record Shown {V : Type 0} (admits : V → LaneRow → Type 0) (c : Context) (rows : ℕ → LaneRow) (plain turned : List V) : Type 0 where

@@ -10,4 +10,4 @@ pub mod listed;
 pub mod plan;
 pub mod round;
 pub mod single;
-pub mod walks;
+pub mod walked;

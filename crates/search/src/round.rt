@@ -4,10 +4,9 @@ ghost use Rattle.logic.specs.Limits.{max_signals, word_bits};
 ghost use Rattle.search.specs.Contexts.{net_in, space};
 ghost use Rattle.search.specs.Rounds.{lane_at, Round};
 
-use crate::lane::lowest_lane;
+use crate::lane::number_of;
 use crate::listed::Listed;
 use crate::plan::Plan;
-use crate::walks::walk_context;
 use logic::front::put_front;
 use logic::limits::MAX_SIGNALS;
 use logic::logic::Exact;
@@ -28,8 +27,8 @@ pub fn round(context: &Context, listed: &Listed, words: &[u64]) -> Option<usize>
     let mut turned = [0u64; MAX_SIGNALS];
     let mut fold = [0u64; MINTERMS];
     put_front(words, &mut plain);
-    walk_context::<Words>(context, &plan, &mut plain, &mut turned, &mut fold);
-    lowest_lane::<Words>(context, listed, &plain, &turned)
+    let walked = plan.walk::<Words>(&mut plain, &mut turned, &mut fold);
+    walked.lowest_lane(listed)
 }
 
 /// The assignment of a lane.
@@ -39,11 +38,6 @@ pub fn lane_assignment(context: &Context, words: &[u64], lane: usize) -> Assignm
     ensures value { result.0 ≡ lane_at context.now words.now lane }
     ensures small { result.0 < space context.now }
 {
-    let mut at = 0u64;
-    for i in 0..context.network().inputs() {
-        if <Words as Exact>::read(words[i], lane) {
-            at += 1 << i;
-        }
-    }
-    Assignment(at)
+    let leaves = &words[..context.network().inputs()];
+    Assignment(number_of(leaves, |word| <Words as Exact>::read(*word, lane)))
 }

@@ -1,17 +1,13 @@
 //! One assignment.
-ghost use Rattle.std.specs.Prelude.{◌≡◌, ◌^◌, ◌<◌, ◌≤◌, length};
-ghost use Rattle.network.specs.Limits.{minterms};
+ghost use Rattle.std.specs.Prelude.{◌≡◌, ◌^◌, ◌<◌};
 ghost use Rattle.network.specs.Rows.{bit_at};
 ghost use Rattle.network.specs.Nets.{row_at};
 ghost use Rattle.theory.specs.Values.{minterm_at};
-ghost use Rattle.logic.specs.Limits.{max_signals};
 ghost use Rattle.search.specs.Contexts.{net_in, dull_at};
-ghost use Rattle.search.specs.Plans.{Plans};
 
-use crate::lane::{lane_dull, minterm};
+use crate::lane::minterm;
 use crate::listed::Listed;
 use crate::plan::Plan;
-use crate::walks::walk_context;
 use logic::bits::Bits;
 use logic::evaluate::put_bits;
 use logic::limits::MAX_SIGNALS;
@@ -34,23 +30,42 @@ pub fn reads_at(context: &Context, at: Assignment) -> Minterm
     minterm::<Bits>(&rows[context.target()], 0, &values)
 }
 
-/// Whether an assignment of the leaves is dull. The slices are for the values of both walks.
-pub fn is_dull(
-    context: &Context,
-    plan: &Plan,
-    listed: &Listed,
-    at: Assignment,
-    plain: &mut [bool],
-    turned: &mut [bool],
-    fold: &mut [bool],
-) -> bool
-    requires plan { Plans context.now plan.now }
-    requires first { max_signals ≤ length plain.old }
-    requires second { max_signals ≤ length turned.old }
-    requires scratch { minterms ≤ length fold.old }
-    ensures { result ≡ dull_at context.now listed.now at.0 }
-{
-    put_bits(at, context.network().inputs(), plain);
-    walk_context::<Bits>(context, plan, plain, turned, fold);
-    lane_dull::<Bits>(context, listed, 0, plain, turned)
+/// A test of single assignments against a list, with the places for the values of both walks. It is made
+/// once in a look.
+#[derive(Clone, Copy)]
+pub struct Single<'a> {
+    plan: Plan<'a>,
+    listed: Listed,
+    plain: [bool; MAX_SIGNALS],
+    turned: [bool; MAX_SIGNALS],
+    fold: [bool; MINTERMS],
+}
+
+impl<'a> Single<'a> {
+    /// The test of a context's assignments against a list.
+    pub fn of(context: &'a Context, listed: &Listed) -> Single<'a>
+        ensures context { result.plan.context.now ≡ context.now }
+        ensures listed { result.listed ≡ listed.now }
+    {
+        Single {
+            plan: Plan::of(context),
+            listed: *listed,
+            plain: [false; MAX_SIGNALS],
+            turned: [false; MAX_SIGNALS],
+            fold: [false; MINTERMS],
+        }
+    }
+
+    /// Whether an assignment of the leaves is dull.
+    pub fn is_dull(&mut self, at: Assignment) -> bool
+        ensures dull { result ≡ dull_at self.old.plan.context.now self.old.listed at.0 }
+        ensures context { self.new.plan.context.now ≡ self.old.plan.context.now }
+        ensures listed { self.new.listed ≡ self.old.listed }
+    {
+        put_bits(at, self.plan.context().network().inputs(), &mut self.plain);
+        let walked = self
+            .plan
+            .walk::<Bits>(&mut self.plain, &mut self.turned, &mut self.fold);
+        walked.lane_dull(&self.listed, 0)
+    }
 }

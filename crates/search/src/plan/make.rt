@@ -2,8 +2,9 @@
 ghost use Rattle.std.specs.Prelude.{◌≡◌, ℕ, ◌+◌, ◌||◌, length, ◌==◌};
 ghost use Rattle.context.specs.Windows.{is_output};
 ghost use Rattle.window.specs.Sets.{has};
+ghost use Rattle.logic.specs.Limits.{max_signals};
 ghost use Rattle.search.specs.Contexts.{net_in};
-ghost use Rattle.search.specs.Plans.{Needs, Plans};
+ghost use Rattle.search.specs.Plans.{Needs};
 
 use super::Plan;
 use logic::dependents::mark_dependents;
@@ -31,6 +32,7 @@ fn needed(context: &Context) -> SignalSet
 {
     let network = context.network();
     let mut set = seeds(context);
+    // Downward over the numbers of the nodes: a number gives a node's signal as well as its row.
     for n in (0..network.rows().len()).rev() {
         if set.has(node_signal(network, n)) {
             set.insert_fanins(node_row(network, n));
@@ -39,22 +41,31 @@ fn needed(context: &Context) -> SignalSet
     set
 }
 
-impl Plan {
+impl<'a> Plan<'a> {
     /// The plan of a context.
-    pub fn of(context: &Context) -> Plan
-        ensures { Plans context.now result }
+    pub fn of(context: &'a Context) -> Plan<'a>
+        ensures { result.context.now ≡ context.now }
     {
         let mut marks = [false; MAX_SIGNALS];
         mark_dependents(context.network(), context.target(), &mut marks);
         Plan {
+            context,
             needed: needed(context),
             marks,
         }
     }
 
+    /// The context.
+    pub(crate) fn context(&self) -> &'a Context
+        ensures { result.now ≡ self.now.context.now }
+    {
+        self.context
+    }
+
     /// The signals that matter to the target or to a root.
     pub fn needed(&self) -> &[bool]
         ensures value { result.now ≡ self.now.needed.flags }
+        ensures count { length result.now ≡ max_signals }
     {
         self.needed.flags()
     }
@@ -62,6 +73,7 @@ impl Plan {
     /// For each signal whether it depends on the target.
     pub fn marks(&self) -> &[bool]
         ensures value { result.now ≡ self.now.marks }
+        ensures count { length result.now ≡ max_signals }
     {
         &self.marks
     }

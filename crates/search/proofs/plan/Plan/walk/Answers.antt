@@ -1,0 +1,24 @@
+use Rattle.std.proofs.Common.{ap, arith}
+use Rattle.network.specs.Nets.{size}
+use Rattle.network.specs.Parts.{net_of}
+use Rattle.search.proofs.Contexts.{size-most}
+use Rattle.search.proofs.Valued.{valued_by, shown_by}
+use Rattle.search.proofs.plan.Plan.walk.Goals as goal
+
+pub walk_needed-requires-clause-needs : goal.walk_needed-requires-clause-needs
+walk_needed-requires-clause-needs g c =
+    omega (arith, size-most c.args.self.now.context.now, ap (λ n. size (net_of n)) c.network.ensures.value, c.needed.ensures.count)
+
+pub returns-clause-values : goal.returns-clause-values
+returns-clause-values g c =
+    let e = c.walk_needed.ensures in
+    rw (c.over.ensures.plain, c.over.ensures.turned)
+    (valued_by c.args.self.now _ _ _ _ _ (rw (c.needed.ensures.value, c.network.ensures.value) at e.plain)
+    (rw (c.needed.ensures.value, c.network.ensures.value, c.target.ensures.value) at e.turned))
+
+pub returns-clause-shown : goal.returns-clause-shown
+returns-clause-shown g c =
+    let e = c.walk_needed.ensures in
+    rw (c.over.ensures.plain, c.over.ensures.turned)
+    (shown_by c.args.self.now _ _ _ _ (rw (c.needed.ensures.value, c.network.ensures.value) at e.admits)
+    (rw (c.needed.ensures.value, c.network.ensures.value, c.target.ensures.value) at e.inverted))
