@@ -1,8 +1,7 @@
 -- What is read in a lane.
-use Rattle.std.proofs.Common.{Bool, List, None, Option, Some, [], add-one, ap, ap₂, arith, cond, false, get_or, length, not, refl, subst, suc, sym, true, zero, zero-le, ℕ, ◌+◌, ◌<◌, ◌^◌, ◌||◌, ◌∙◌, ◌∷◌, ◌≡◌, ◌≤◌}
+use Rattle.std.proofs.Common.{Bool, List, None, Option, Some, [], add-one, ap, ap₂, arith, cond, false, get_or, length, not, refl, suc, sym, true, zero, zero-le, ℕ, ◌+◌, ◌<◌, ◌^◌, ◌||◌, ◌∙◌, ◌∷◌, ◌≡◌, ◌≤◌}
 use mathlib.Core.Path.{subst⁻¹}
 use mathlib.Core.Bool.{xor, beq}
-use Rattle.std.proofs.lemmas.Nat.{pow_below}
 use denote.Param.Members.{Mut}
 use denote.Ref.{Bor}
 use Rattle.std.specs.Option.{MatchOption}

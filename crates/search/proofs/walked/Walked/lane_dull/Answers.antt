@@ -1,8 +1,7 @@
-use Rattle.std.proofs.Common.{◌≡◌, ℕ, ◌≤◌, Bool, false, not, ◌||◌, List, length, get_or, None, sym, ap, ◌∙◌, subst, arith}
-use Rattle.network.specs.Nets.{size}
+use Rattle.std.proofs.Common.{◌≡◌, ℕ, false, not, ◌||◌, length, None, sym, ap, ◌∙◌, subst, arith}
 use Rattle.network.specs.Parts.{net_of}
 use Rattle.network.specs.declared.row.Row.{Row}
-use Rattle.theory.specs.Values.{target, reads, minterm_at}
+use Rattle.theory.specs.Values.{reads, minterm_at}
 use Rattle.logic.specs.Lanes.{LaneRow}
 use Rattle.logic.specs.Walks.{signal_row}
 use Rattle.search.specs.Contexts.{net_in, dull_in}
