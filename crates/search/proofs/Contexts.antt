@@ -7,7 +7,7 @@ use Rattle.network.specs.Nets.{size, row_at, LegalNet}
 use Rattle.network.specs.declared.row.Row.{Row}
 use Rattle.network.specs.declared.row.Signal.{Signal}
 use Rattle.network.proofs.Nets.{legal-net}
-use Rattle.logic.specs.Limits.{max_signals}
+use Rattle.network.specs.Limits.{max_signals}
 use Rattle.window.specs.declared.extracted.Context.{Context}
 use Rattle.search.specs.Contexts.{net_in}
 use Rattle.search.specs.Lanes.{Within}

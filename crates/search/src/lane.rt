@@ -27,7 +27,7 @@ pub(crate) fn number_of<T, B: Fn(&T) -> bool>(items: &[T], bit: B) -> u64
 
 /// The minterm that a row's fanins read in a lane.
 pub fn minterm<E: Exact>(row: &Row, lane: usize, values: &[E::Value]) -> Minterm
-    requires lane { lane < E.Logic.lanes }
+    requires lane { lane < E.Logic.LANES }
     requires few { row.now.count ≤ max_fanins }
     requires lower { Lower (length values.now) row.now }
     ensures { (a : ℕ → LaneRow) → AdmitFanins E.Logic.admits row.now values.now a → result.0 ≡ reads row.now (λ s. a s lane) }

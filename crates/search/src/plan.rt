@@ -7,7 +7,7 @@ ghost use Rattle.logic.specs.Depends.{Marked};
 mod make;
 mod walk;
 
-use logic::limits::MAX_SIGNALS;
+use network::limits::MAX_SIGNALS;
 use window::extracted::Context;
 use window::set::SignalSet;
 

@@ -1,6 +1,6 @@
 //! A round: 64 assignments at once.
 ghost use Rattle.std.specs.Prelude.{◌≡◌, ◌<◌, ◌≤◌, length};
-ghost use Rattle.logic.specs.Limits.{max_signals, word_bits};
+ghost use Rattle.logic.specs.Limits.{word_bits};
 ghost use Rattle.search.specs.Contexts.{net_in, space};
 ghost use Rattle.search.specs.Rounds.{lane_at, Round};
 
@@ -8,7 +8,7 @@ use crate::lane::number_of;
 use crate::listed::Listed;
 use crate::plan::Plan;
 use logic::front::put_front;
-use logic::limits::MAX_SIGNALS;
+use network::limits::MAX_SIGNALS;
 use logic::logic::Exact;
 use logic::words::Words;
 use network::limits::MINTERMS;

@@ -10,7 +10,7 @@ use crate::listed::Listed;
 use crate::plan::Plan;
 use logic::bits::Bits;
 use logic::evaluate::put_bits;
-use logic::limits::MAX_SIGNALS;
+use network::limits::MAX_SIGNALS;
 use logic::walk::walk;
 use network::limits::MINTERMS;
 use network::row::{Assignment, Minterm};

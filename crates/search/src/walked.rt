@@ -1,6 +1,6 @@
 //! What both walks over a context left.
 ghost use Rattle.std.specs.Prelude.{◌≡◌, ◌≤◌, length};
-ghost use Rattle.logic.specs.Limits.{max_signals};
+ghost use Rattle.network.specs.Limits.{max_signals};
 
 mod lane;
 

@@ -2,13 +2,13 @@
 ghost use Rattle.std.specs.Prelude.{◌≡◌, ℕ, ◌+◌, ◌||◌, length, ◌==◌};
 ghost use Rattle.context.specs.Windows.{is_output};
 ghost use Rattle.window.specs.Sets.{has};
-ghost use Rattle.logic.specs.Limits.{max_signals};
+ghost use Rattle.network.specs.Limits.{max_signals};
 ghost use Rattle.search.specs.Contexts.{net_in};
 ghost use Rattle.search.specs.Plans.{Needs};
 
 use super::Plan;
 use logic::dependents::mark_dependents;
-use logic::limits::MAX_SIGNALS;
+use network::limits::MAX_SIGNALS;
 use window::extracted::Context;
 use window::nodes::{node_row, node_signal};
 use window::set::SignalSet;

@@ -1,7 +1,7 @@
 //! Both walks over a context: as its network is, and with the target's value inverted.
 ghost use Rattle.std.specs.Prelude.{ℕ, ◌≡◌, ◌≤◌, length, take};
 ghost use Rattle.network.specs.Limits.{minterms};
-ghost use Rattle.logic.specs.Limits.{max_signals};
+ghost use Rattle.network.specs.Limits.{max_signals};
 ghost use Rattle.logic.specs.Lanes.{LaneRow, Admit};
 ghost use Rattle.search.specs.Contexts.{net_in};
 ghost use Rattle.search.specs.Lanes.{Shown, Valued};

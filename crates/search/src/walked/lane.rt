@@ -1,7 +1,7 @@
 //! One test of a lane for every exact logic.
 ghost use Rattle.std.specs.Prelude.{◌≡◌, ℕ, ◌<◌};
 ghost use Rattle.std.specs.List.{list_any};
-ghost use Rattle.logic.specs.Limits.{max_signals};
+ghost use Rattle.network.specs.Limits.{max_signals};
 ghost use Rattle.logic.specs.Lanes.{LaneRow};
 ghost use Rattle.search.specs.Contexts.{net_in, dull_in};
 ghost use Rattle.search.specs.Lanes.{unlike, Shown, Lowest};
@@ -16,7 +16,7 @@ impl<'a, 'b, E: Exact> Walked<'a, 'b, E> {
     /// Whether a signal differs in a lane.
     fn differs_at(&self, signal: Signal, lane: usize) -> bool
         requires signal { signal.0 < max_signals }
-        requires lane { lane < E.Logic.lanes }
+        requires lane { lane < E.Logic.LANES }
         ensures { (d : E.Value) → result ≡ unlike E.Exact.row self.now.plain.now self.now.turned.now lane d signal }
     {
         let at = signal.0 as usize;
@@ -25,7 +25,7 @@ impl<'a, 'b, E: Exact> Walked<'a, 'b, E> {
 
     /// Whether some root differs in a lane.
     fn differs(&self, lane: usize) -> bool
-        requires { lane < E.Logic.lanes }
+        requires { lane < E.Logic.LANES }
         ensures { (d : E.Value) → result ≡ list_any (unlike E.Exact.row self.now.plain.now self.now.turned.now lane d) (net_in self.now.context.now).outputs }
     {
         self.context
@@ -37,7 +37,7 @@ impl<'a, 'b, E: Exact> Walked<'a, 'b, E> {
 
     /// Whether the assignment of a lane is dull.
     pub fn lane_dull(&self, listed: &Listed, lane: usize) -> bool
-        requires { lane < E.Logic.lanes }
+        requires { lane < E.Logic.LANES }
         ensures { (rows : ℕ → LaneRow) → Shown E.Logic.admits self.now.context.now rows self.now.plain.now self.now.turned.now → result ≡ dull_in self.now.context.now listed.now rows lane }
     {
         if !self.differs(lane) {
@@ -49,8 +49,8 @@ impl<'a, 'b, E: Exact> Walked<'a, 'b, E> {
 
     /// The lowest lane whose assignment is not dull, if there is one.
     pub fn lowest_lane(&self, listed: &Listed) -> Option<usize>
-        ensures { (rows : ℕ → LaneRow) → Shown E.Logic.admits self.now.context.now rows self.now.plain.now self.now.turned.now → Lowest E.Logic.lanes (dull_in self.now.context.now listed.now rows) result }
+        ensures { (rows : ℕ → LaneRow) → Shown E.Logic.admits self.now.context.now rows self.now.plain.now self.now.turned.now → Lowest E.Logic.LANES (dull_in self.now.context.now listed.now rows) result }
     {
-        (0..E::lane_count()).find(|lane| !self.lane_dull(listed, *lane))
+        (0..E::LANES).find(|lane| !self.lane_dull(listed, *lane))
     }
 }
