@@ -1,5 +1,6 @@
 //! A round: 64 assignments at once.
 ghost use Rattle.std.specs.Prelude.{◌≡◌, ◌<◌, ◌≤◌, length};
+ghost use Rattle.network.specs.Limits.{max_signals};
 ghost use Rattle.logic.specs.Limits.{word_bits};
 ghost use Rattle.search.specs.Contexts.{net_in, space};
 ghost use Rattle.search.specs.Rounds.{lane_at, Round};
