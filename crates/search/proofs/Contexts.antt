@@ -1,16 +1,13 @@
 -- The network of a context.
 use Rattle.std.proofs.Common.{◌≡◌, ℕ, ◌+◌, ◌≤◌, List, get_or, ap₂, arith}
 use mathlib.Core.Path.{subst⁻¹}
-use Rattle.network.specs.Limits.{max_fanins}
+use Rattle.network.specs.Limits.{max_fanins, max_signals}
 use Rattle.network.specs.Rows.{blank, Legal, Lower}
 use Rattle.network.specs.Nets.{size, row_at, LegalNet}
 use Rattle.network.specs.declared.row.Row.{Row}
-use Rattle.network.specs.declared.row.Signal.{Signal}
 use Rattle.network.proofs.Nets.{legal-net}
-use Rattle.network.specs.Limits.{max_signals}
 use Rattle.window.specs.declared.extracted.Context.{Context}
 use Rattle.search.specs.Contexts.{net_in}
-use Rattle.search.specs.Lanes.{Within}
 
 module _ (c : Context) where
   pub legal-in : LegalNet (net_in c)
@@ -33,7 +30,3 @@ module _ (c : Context) where
   pub target-lower : (r : Row) (n : ℕ) → r ≡ row_at (net_in c) c.target → size (net_in c) ≤ n → Lower n r
   target-lower r n e h =
       subst⁻¹ (λ (q : Row). Lower n q) e (λ i l. omega (arith, target-legal.lower i l, c.node))
-
-  -- the roots, as the code reads them
-  pub roots-within : (ss : List Signal) (n : ℕ) → ss ≡ (net_in c).outputs → size (net_in c) ≤ n → Within ss n
-  roots-within ss n e h = subst⁻¹ (λ (qs : List Signal). Within qs n) e (λ j l. omega (arith, legal-in.exit j l))

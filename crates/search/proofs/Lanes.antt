@@ -1,6 +1,5 @@
 -- What is read in a lane.
-use Rattle.std.proofs.Common.{Bool, List, None, Option, Some, [], add-one, ap, ap₂, arith, cond, false, get_or, length, not, refl, suc, sym, true, zero, zero-le, ℕ, ◌+◌, ◌<◌, ◌^◌, ◌||◌, ◌∙◌, ◌∷◌, ◌≡◌, ◌≤◌}
-use mathlib.Core.Path.{subst⁻¹}
+use Rattle.std.proofs.Common.{Bool, List, None, Option, Some, add-one, ap, ap₂, arith, cond, false, length, not, refl, sym, true, zero-le, ℕ, ◌+◌, ◌<◌, ◌^◌, ◌∙◌, ◌≡◌, ◌≤◌}
 use mathlib.Core.Bool.{xor, beq}
 use denote.Param.Members.{Mut}
 use denote.Ref.{Bor}
@@ -13,18 +12,15 @@ use Rattle.std.proofs.lemmas.Iterator.{first_from_Range}
 use Rattle.std.specs.List.{list_any, FoldsTo}
 use Rattle.std.specs.declared.ops.Range.{Range}
 use Rattle.network.specs.Rows.{no_signal}
-use Rattle.context.specs.Care.{any_below, differs}
+use Rattle.context.specs.Care.{differs}
 use Rattle.context.proofs.Any.{any_same}
 use Rattle.window.specs.declared.extracted.Context.{Context}
 use Rattle.search.specs.Contexts.{net_in}
 use Rattle.search.specs.Lanes.{unlike, Shown, Lowest}
+use Rattle.search.proofs.Anys.{any-listed}
 use Rattle.theory.specs.Values.{number}
 use Rattle.theory.proofs.Numbers.{pow-twice}
 use Rattle.logic.specs.Lanes.{LaneRow}
-
--- a value that was read from a slice
-pub read_at : {V : Type 0} (admits : V → LaneRow → Type 0) (vs : List V) (s : ℕ) (a : LaneRow) (v : V) → v ≡ get_or vs s v → admits (get_or vs s v) a → admits v a
-read_at admits vs s a v is h = subst⁻¹ (λ w. admits w a) is h
 
 -- one bit more of a number
 pub number_step : (x : ℕ → Bool) (i y y' : ℕ) (b : Bool) → y ≡ number x i → b ≡ x i → y' ≡ y + cond b (2 ^ i) 0 → y' ≡ number x (i + 1)
@@ -49,22 +45,6 @@ xor-compared true true = refl
 xor-compared true false = refl
 xor-compared false true = refl
 xor-compared false false = refl
-
-or_swap : (a b c : Bool) → (a || (b || c)) ≡ (b || (a || c))
-or_swap true true c = refl
-or_swap true false c = refl
-or_swap false b c = refl
-
-any_first : (n : ℕ) (p : ℕ → Bool) → any_below (suc n) p ≡ (p 0 || any_below n (λ j. p (suc j)))
-unfolding any_below
-any_first zero p = refl
-any_first (suc n) p = ap (λ b. p (suc n) || b) (any_first n p) ∙ or_swap (p (suc n)) (p 0) (any_below n (λ j. p (suc j)))
-
--- a test of some element, by its place
-any-listed : {X : Type 0} (p : X → Bool) (xs : List X) (e : X) → list_any p xs ≡ any_below (length xs) (λ j. p (get_or xs j e))
-unfolding any_below
-any-listed p [] e = refl
-any-listed p (x ∷ xs) e = ap (λ b. p x || b) (any-listed p xs e) ∙ sym (any_first (length xs) (λ j. p (get_or (x ∷ xs) j e)))
 
 -- the roots differ in lane l as they do under its assignment
 pub differs-shown : {V : Type 0} (admits : V → LaneRow → Type 0) (row : V → LaneRow) (n : ℕ) → ((v : V) (a : LaneRow) → admits v a → (l : ℕ) → l < n → a l ≡ row v l)

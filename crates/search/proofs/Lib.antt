@@ -1,3 +1,4 @@
+pub mod Anys
 pub mod Lists
 pub mod Contexts
 pub mod Plans

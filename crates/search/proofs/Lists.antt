@@ -11,6 +11,7 @@ use Rattle.network.specs.Rows.{bit_at, bit_of}
 use Rattle.context.specs.Care.{any_below, count_below}
 use Rattle.context.proofs.Any.{any_same}
 use Rattle.context.proofs.Counts.{count_yes, count_no, count_same}
+use Rattle.search.proofs.Anys.{or-none, any_add}
 use Rattle.network.proofs.Bits.{bit-of-zero, every, computed, bit-or}
 
 zeros : (n k : ℕ) → ◌≡◌ {A = ℕ} (get_or (replicate n 0) k 0) 0
@@ -37,10 +38,6 @@ one_bit : (i j : ℕ) → i < 8 → j < 8 → bit_at ((1 * 2 ^ i) % 256) j ≡ e
 unfolding bit_at
 one_bit i j hi hj =
     alike-true (bit_at ((1 * 2 ^ i) % 256) j) (eqb i j) (computed 8 (λ j. alike (bit_at ((1 * 2 ^ i) % 256) j) (eqb i j)) (computed 8 (λ i. every 8 (λ j. alike (bit_at ((1 * 2 ^ i) % 256) j) (eqb i j))) refl i hi) j hj)
-
-or-none : (a : Bool) → (a || false) ≡ a
-or-none true = refl
-or-none false = refl
 
 same_rest : (y z : ℕ) → y / 8 ≡ z / 8 → eqb (y % 8) (z % 8) ≡ eqb y z
 same_rest y z e =
@@ -75,11 +72,6 @@ byte-any : (b : ℕ) → b < 256 → not (eqb b 0) ≡ any_below 8 (bit_at b)
 unfolding bit_at any_below
 byte-any b h = alike-true (not (eqb b 0)) (any_below 8 (bit_at b)) (computed 256 (λ b. alike (not (eqb b 0)) (any_below 8 (bit_at b))) refl b h)
 
-or_swap : (a b c : Bool) → (a || (b || c)) ≡ (b || (a || c))
-or_swap true true c = refl
-or_swap true false c = refl
-or_swap false b c = refl
-
 -- the numbers below n and those from n on
 count_add : (n m : ℕ) (p : ℕ → Bool) → count_below (n + m) p ≡ count_below n p + count_below m (λ j. p (n + j))
 unfolding count_below
@@ -93,13 +85,6 @@ count_add n (suc m) p =
     (λ (e : p (n + m) ≡ true). omega (arith, low, count_yes (n + m) p e, count_yes m q e))
     (λ (e : p (n + m) ≡ false). omega (arith, low, count_no (n + m) p e, count_no m q e))
     (cases_Bool (p (n + m)))
-
-any_add : (n m : ℕ) (p : ℕ → Bool) → any_below (n + m) p ≡ (any_below n p || any_below m (λ j. p (n + j)))
-unfolding any_below
-any_add n zero p = let z : n + 0 ≡ n = omega arith in ap (λ k. any_below k p) z ∙ sym (or-none (any_below n p))
-any_add n (suc m) p =
-    let next : n + suc m ≡ suc (n + m) = omega arith in
-    ap (λ k. any_below k p) next ∙ ap (λ b. p (n + m) || b) (any_add n m p) ∙ or_swap (p (n + m)) (any_below n p) (any_below m (λ j. p (n + j)))
 
 first-byte : (b : ℕ) (bs : List ℕ) (i : ℕ) → i < 8 → bit_of (record { bytes = b ∷ bs }) i ≡ bit_at b i
 unfolding bit_of

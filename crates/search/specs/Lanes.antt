@@ -11,10 +11,6 @@ use Rattle.logic.specs.Walks.{walked, signal_row}
 use Rattle.window.specs.declared.extracted.Context.{Context}
 use Rattle.search.specs.Contexts.{net_in}
 
--- each of the signals is below n
-abbrev pub Within : List Signal → ℕ → Type 0
-Within ss n = (j : ℕ) → j < length ss → (get_or ss j no_signal).0 < n
-
 -- the value of each of the signals admits its row
 abbrev pub AdmitEach : {V : Type 0} → (V → LaneRow → Type 0) → List Signal → List V → (ℕ → LaneRow) → Type 0
 AdmitEach {V} admits ss vs rows = (j : ℕ) (d : V) → j < length ss → admits (slice_index_or vs (get_or ss j no_signal).0 d) (rows (get_or ss j no_signal).0)

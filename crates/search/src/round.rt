@@ -9,10 +9,9 @@ use crate::lane::number_of;
 use crate::listed::Listed;
 use crate::plan::Plan;
 use logic::front::put_front;
-use network::limits::MAX_SIGNALS;
 use logic::logic::Exact;
 use logic::words::Words;
-use network::limits::MINTERMS;
+use network::limits::{MAX_SIGNALS, MINTERMS};
 use network::row::Assignment;
 use window::extracted::Context;
 

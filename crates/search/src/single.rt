@@ -10,9 +10,8 @@ use crate::listed::Listed;
 use crate::plan::Plan;
 use logic::bits::Bits;
 use logic::evaluate::put_bits;
-use network::limits::MAX_SIGNALS;
 use logic::walk::walk;
-use network::limits::MINTERMS;
+use network::limits::{MAX_SIGNALS, MINTERMS};
 use network::row::{Assignment, Minterm};
 use window::extracted::Context;
 
