@@ -14,22 +14,6 @@ use Rattle.search.specs.Lanes.{AdmitFanins}
 use Rattle.search.proofs.Contexts.{size-most, target_row, target-few, target-lower}
 use Rattle.search.proofs.single.reads_at.Goals as goal
 
-pub put_bits-requires : goal.put_bits-requires
-put_bits-requires c = record { few = omega (arith, c.network-network.ensures.few); room = omega (arith, c.network-network.ensures.few) }
-
-pub walk-requires : goal.walk-requires
-walk-requires c =
-    let same : size (net_of c.network-network.result.now) ≡ size (net_in c.args.context.now) = ap (λ n. size (net_of n)) c.network-network.ensures.value in
-    record { room = omega (arith, size-most c.args.context.now, same); scratch = omega arith }
-
-pub minterm-requires : goal.minterm-requires
-minterm-requires c =
-    let x = c.args.context.now in
-    let rows : c.rows-rows.result.now ≡ (net_in x).rows = c.rows-rows.ensures.value ∙ ap (λ n. (net_of n).rows) c.network-network.ensures.value in
-    let row = target_row x c.rows-rows.result.now c.target.result rows c.target.ensures.value in
-    let room : size (net_in x) ≤ length c.walk.new.values = omega (arith, size-most x) in
-    record { lane = omega arith; few = target-few x _ row; lower = target-lower x _ (length c.walk.new.values) row room }
-
 pub returns : goal.returns
 returns c =
     let x = c.args.context.now in

@@ -5,10 +5,6 @@ use Rattle.search.proofs.Contexts.{size-most}
 use Rattle.search.proofs.Valued.{valued_by, shown_by}
 use Rattle.search.proofs.plan.Plan.walk.Goals as goal
 
-pub walk_needed-requires-clause-needs : goal.walk_needed-requires-clause-needs
-walk_needed-requires-clause-needs g c =
-    omega (arith, size-most c.args.self.now.context.now, ap (λ n. size (net_of n)) c.network.ensures.value, c.needed.ensures.count)
-
 pub returns-clause-values : goal.returns-clause-values
 returns-clause-values g c =
     let e = c.walk_needed.ensures in

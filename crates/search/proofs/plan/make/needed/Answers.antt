@@ -36,6 +36,3 @@ loop-n-preserved-then-has c =
     gathered-more net c.args.context.now.target k c.loop-n.n c.loop-n.set c.insert_fanins.new.self (omega arith) (legal-in c.args.context.now) l y
     (λ s. c.insert_fanins.ensures s ∙ ap (λ (q : Row). has c.loop-n.set s || is_fanin q s) r)
     c.loop-n.invariant
-
-pub returns : goal.returns
-returns c = gathered-done (net_in c.args.context.now) c.args.context.now.target c.loop-n.n c.loop-n.set c.loop-n-test.false c.loop-n.invariant

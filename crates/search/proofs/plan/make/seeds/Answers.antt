@@ -25,10 +25,3 @@ loop-root-preserved c = λ s.
     let e : roots ≡ net.outputs = c.outputs-root-items.ensures ∙ ap (λ (n : Network). (net_of n).outputs) c.network-network.ensures.value in
     c.insert-in-loop-root.ensures s
     ∙ mark-next (has c.loop-root.set s) (eqb (net.inputs + c.args.context.now.target) s) (eqb (get_or roots i no_signal).0 s) i (λ j. eqb (output_at net j) s) (c.loop-root.invariant s) (ap (λ (qs : List Signal). eqb (get_or qs i no_signal).0 s) (sym e))
-
-pub returns : goal.returns
-returns c = λ s.
-    let net = net_in c.args.context.now in
-    let e : c.outputs-root-items.result.now ≡ net.outputs = c.outputs-root-items.ensures ∙ ap (λ (n : Network). (net_of n).outputs) c.network-network.ensures.value in
-    let l : c.loop-root.root-index ≡ length net.outputs = omega (arith, ap length e) in
-    c.loop-root.invariant s ∙ ap (λ n. eqb (net.inputs + c.args.context.now.target) s || any_below n (λ j. eqb (output_at net j) s)) l

@@ -11,14 +11,6 @@ use Rattle.search.proofs.Contexts.{size-most, target_row, target-few, target-low
 use Rattle.search.proofs.Lanes.{differs-shown}
 use Rattle.search.proofs.walked.Walked.lane_dull.Goals as goal
 
-pub minterm-requires : goal.minterm-requires
-minterm-requires g c =
-    let w = c.args.self.now in
-    let x = w.context.now in
-    let rows : c.rows-rows.result.now ≡ (net_in x).rows = c.rows-rows.ensures.value ∙ ap (λ n. (net_of n).rows) c.network.ensures.value in
-    let row = target_row x c.rows-rows.result.now c.target.result rows c.target.ensures.value in
-    record { lane = c.requires; few = target-few x _ row; lower = target-lower x _ (length w.plain.now) row (omega (arith, size-most x, w.first)) }
-
 pub returns-then-not-differs : goal.returns-then-not-differs
 unfolding dull_in
 returns-then-not-differs g c rows shown =
