@@ -1,7 +1,6 @@
 -- The network of a context.
 use Rattle.std.proofs.Common.{◌≡◌, ℕ, ◌+◌, ◌≤◌, List, get_or, ap₂, arith}
 use mathlib.Core.Path.{subst⁻¹}
-use Rattle.network.specs.Limits.{max_fanins, max_signals}
 use Rattle.network.specs.Rows.{blank, Legal, Lower}
 use Rattle.network.specs.Nets.{size, row_at, LegalNet}
 use Rattle.network.specs.declared.row.Row.{Row}
@@ -13,19 +12,12 @@ module _ (c : Context) where
   pub legal-in : LegalNet (net_in c)
   legal-in = legal-net c.network
 
-  -- its signals fit the slices of a walk
-  pub size-most : size (net_in c) ≤ max_signals
-  size-most = omega (arith, legal-in.few_inputs, legal-in.few_nodes)
-
   pub target-legal : Legal ((net_in c).inputs + c.target) (row_at (net_in c) c.target)
   target-legal = legal-in.row c.target c.node
 
   -- the target's row, as the code reads it
   pub target_row : (rows : List Row) (t : ℕ) → rows ≡ (net_in c).rows → t ≡ c.target → get_or rows t blank ≡ row_at (net_in c) c.target
   target_row rows t e h = ap₂ (λ (qs : List Row) n. get_or qs n blank) e h
-
-  pub target-few : (r : Row) → r ≡ row_at (net_in c) c.target → r.count ≤ max_fanins
-  target-few r e = subst⁻¹ (λ (q : Row). q.count ≤ max_fanins) e target-legal.few
 
   pub target-lower : (r : Row) (n : ℕ) → r ≡ row_at (net_in c) c.target → size (net_in c) ≤ n → Lower n r
   target-lower r n e h =

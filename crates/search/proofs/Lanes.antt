@@ -1,5 +1,5 @@
 -- What is read in a lane.
-use Rattle.std.proofs.Common.{Bool, List, None, Option, Some, add-one, ap, ap₂, arith, cond, false, length, not, refl, sym, true, zero-le, ℕ, ◌+◌, ◌<◌, ◌^◌, ◌∙◌, ◌≡◌, ◌≤◌}
+use Rattle.std.proofs.Common.{get_or, Bool, List, None, Option, Some, add-one, ap, ap₂, arith, cond, false, length, map, not, refl, sym, true, zero-le, ℕ, ◌+◌, ◌<◌, ◌^◌, ◌∙◌, ◌≡◌, ◌≤◌}
 use mathlib.Core.Bool.{xor, beq}
 use denote.Param.Members.{Mut}
 use denote.Ref.{Bor}
@@ -9,9 +9,9 @@ use Rattle.std.specs.Fn.{CalledAt}
 use Rattle.std.specs.Iterator.{YieldsThen}
 use Rattle.std.proofs.iter.Yields.{nat_range_steps}
 use Rattle.std.proofs.lemmas.Iterator.{first_from_Range}
-use Rattle.std.specs.List.{list_any, FoldsTo}
+use Rattle.std.specs.List.{list_any, FoldsTo, range_with_len}
 use Rattle.std.specs.declared.ops.Range.{Range}
-use Rattle.network.specs.Rows.{no_signal}
+use Rattle.network.specs.Rows.{no_signal, bit_at}
 use Rattle.context.specs.Care.{differs}
 use Rattle.context.proofs.Any.{any_same}
 use Rattle.window.specs.declared.extracted.Context.{Context}
@@ -20,7 +20,10 @@ use Rattle.search.specs.Lanes.{unlike, Shown, Lowest}
 use Rattle.search.proofs.Anys.{any-listed}
 use Rattle.theory.specs.Values.{number}
 use Rattle.theory.proofs.Numbers.{pow-twice}
-use Rattle.logic.specs.Lanes.{LaneRow}
+use Rattle.logic.specs.Lanes.{LaneRow, Admit}
+use Rattle.logic.specs.Bits.{bit_admits}
+use Rattle.logic.specs.Walks.{over}
+use Rattle.logic.proofs.Fronts.{counted-at}
 
 -- one bit more of a number
 pub number_step : (x : ℕ → Bool) (i y y' : ℕ) (b : Bool) → y ≡ number x i → b ≡ x i → y' ≡ y + cond b (2 ^ i) 0 → y' ≡ number x (i + 1)
@@ -75,3 +78,7 @@ pub lowest-by : {F : Type 0} {g : Mut F (Bor ℕ × Unit {0}) Bool} (s u : Range
 lowest-by s u f test r ran called from =
     lowest-found s.end test r
     (rw from at (first_from_Range s u f r (λ l. test l ≡ false) (λ l. test l ≡ true) ran (λ x q k. not-passed (test x) (called x true q k).1) (λ x q k. ((called x false q k).0, not-failed (test x) (called x false q k).1))))
+
+-- the leaves' values, put from an assignment, admit its bits
+pub leaves-put : (a n k : ℕ) (vs old : List Bool) → vs ≡ over (map (bit_at a) (range_with_len 0 n)) old → n ≡ k → Admit bit_admits vs k (λ i l. bit_at a i)
+leaves-put a n k vs old put same i d h = let lt : i < n = omega arith in ap (λ (ws : List Bool). get_or ws i d) put ∙ counted-at (bit_at a) n old i d lt

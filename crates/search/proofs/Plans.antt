@@ -10,7 +10,7 @@ use Rattle.context.proofs.Any.{any-find, any_some}
 use Rattle.window.specs.Sets.{has}
 use Rattle.window.proofs.Marks.{any-zero}
 use Rattle.window.specs.declared.set.SignalSet.{SignalSet}
-use Rattle.search.specs.Plans.{is_wanted, Needs}
+use Rattle.search.specs.Plans.{is_wanted}
 
 -- the set has the target and the roots, with each of its nodes from n on the fanins, and nothing else
 pub record Gathered (net : Net) (t n : ℕ) (set : SignalSet) : Type 0 where
@@ -92,14 +92,6 @@ module _ (net : Net) (t : ℕ) where
         (λ (q : m ≡ n). absurd (both_ways (has set (net.inputs + n)) y (ap (λ j. has set (net.inputs + j)) (sym q) ∙ e)))
         (λ (q : m ≡ n → ⊥). g.closed m i (omega arith) b e u)
         (cases_eq m n);
-    least = g.least;
-  }
-
-  pub gathered-done : (n : ℕ) (set : SignalSet) → n ≤ 0 → Gathered net t n set → Needs net t set
-  gathered-done n set z g = record {
-    target = g.target;
-    root = g.root;
-    closed = λ m i a e u. g.closed m i (omega arith) a e u;
     least = g.least;
   }
 

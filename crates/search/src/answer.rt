@@ -21,6 +21,7 @@ impl Answer {
     pub fn number(self) -> u8
         ensures { result ≡ number_of self }
     {
+        // A variant with fields has no number to cast, so each is written out.
         match self {
             Answer::Found { .. } => 1,
             Answer::Spent { .. } => 2,

@@ -31,7 +31,7 @@ pub fn reads_at(context: &Context, at: Assignment) -> Minterm
 
 /// A test of single assignments against a list, with the places for the values of both walks. It is made
 /// once in a look.
-#[derive(Clone, Copy)]
+#[derive(Drop)]
 pub struct Single<'a> {
     plan: Plan<'a>,
     listed: Listed,

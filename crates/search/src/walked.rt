@@ -36,4 +36,18 @@ impl<'a, 'b, L: Logic> Walked<'a, 'b, L> {
             turned,
         }
     }
+
+    /// The values as the network is.
+    pub fn plain(&self) -> &'b [L::Value]
+        ensures { result.now ≡ self.now.plain.now }
+    {
+        self.plain
+    }
+
+    /// The values with the target's inverted.
+    pub fn turned(&self) -> &'b [L::Value]
+        ensures { result.now ≡ self.now.turned.now }
+    {
+        self.turned
+    }
 }

@@ -1,7 +1,3 @@
-use Rattle.std.proofs.Common.{ap, arith}
-use Rattle.network.specs.Nets.{size}
-use Rattle.network.specs.Parts.{net_of}
-use Rattle.search.proofs.Contexts.{size-most}
 use Rattle.search.proofs.Valued.{valued_by, shown_by}
 use Rattle.search.proofs.plan.Plan.walk.Goals as goal
 

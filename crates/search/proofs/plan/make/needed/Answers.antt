@@ -7,7 +7,7 @@ use Rattle.context.specs.Levels.{is_fanin}
 use Rattle.window.specs.Sets.{has}
 use Rattle.search.specs.Contexts.{net_in}
 use Rattle.search.proofs.Contexts.{legal-in}
-use Rattle.search.proofs.Plans.{gathered-start, gathered-more, gathered-skip, gathered-done}
+use Rattle.search.proofs.Plans.{gathered-start, gathered-more, gathered-skip}
 use Rattle.search.proofs.plan.make.needed.Goals as goal
 
 pub loop-n-init : goal.loop-n-init

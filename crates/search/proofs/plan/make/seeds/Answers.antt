@@ -1,10 +1,9 @@
-use Rattle.std.proofs.Common.{◌≡◌, ℕ, ◌+◌, ◌||◌, eqb, List, length, get_or, sym, ap, ◌∙◌, ap₂, arith}
+use Rattle.std.proofs.Common.{◌≡◌, ℕ, ◌+◌, eqb, List, get_or, sym, ap, ◌∙◌, ap₂}
 use Rattle.network.specs.Rows.{no_signal}
 use Rattle.network.specs.Nets.{output_at}
 use Rattle.network.specs.Parts.{net_of}
 use Rattle.network.specs.declared.row.Signal.{Signal}
 use Rattle.network.specs.declared.network.Network.{Network}
-use Rattle.context.specs.Care.{any_below}
 use Rattle.window.specs.Sets.{has}
 use Rattle.window.proofs.Marks.{mark-next}
 use Rattle.search.specs.Contexts.{net_in}
