@@ -8,7 +8,6 @@ use Rattle.context.specs.Levels.{is_fanin}
 use Rattle.context.specs.Windows.{is_output}
 use Rattle.context.proofs.Any.{any-find, any_some}
 use Rattle.window.specs.Sets.{has}
-use Rattle.window.proofs.Marks.{any-zero}
 use Rattle.window.specs.declared.set.SignalSet.{SignalSet}
 use Rattle.search.specs.Plans.{is_wanted}
 
@@ -94,7 +93,3 @@ module _ (net : Net) (t : ℕ) where
         (cases_eq m n);
     least = g.least;
   }
-
--- the first signal of a set
-pub first-in : (none set : SignalSet) (x y s : ℕ) (p : ℕ → Bool) → x ≡ y → has none s ≡ false → has set s ≡ (has none s || eqb x s) → has set s ≡ (eqb y s || any_below 0 p)
-first-in none set x y s p e z h = h ∙ ap (λ b. b || eqb x s) z ∙ ap (λ k. eqb k s) e ∙ any-zero (eqb y s) p

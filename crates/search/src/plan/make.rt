@@ -20,9 +20,7 @@ fn seeds(context: &Context) -> SignalSet
     let network = context.network();
     let mut set = SignalSet::empty();
     set.insert(node_signal(network, context.target()));
-    for root in network.outputs() {
-        set.insert(*root);
-    }
+    set.insert_all(network.outputs());
     set
 }
 
