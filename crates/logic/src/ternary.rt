@@ -42,20 +42,16 @@ impl Logic for Ternary {
 
 /// A value is a known bit or unknown. A known bit picks its side; an unknown one the common value of two
 /// that are known and equal, and else what is unknown.
-pub fn picks_stand() -> u8
+pub fn picks_stand()
     ensures three { (v : Trit) → (v ≡ unknown) ⊎ ((b : Bool) × (v ≡ trit_of b)) }
     ensures known { (b : Bool) (h l : Trit) → trit_pick (trit_of b) h l ≡ (if b then h else l) }
     ensures common { (b : Bool) → trit_pick unknown (trit_of b) (trit_of b) ≡ trit_of b }
     ensures otherwise { (h l : Trit) → ((b : Bool) → h ≡ trit_of b → l ≢ trit_of b) → trit_pick unknown h l ≡ unknown }
-{
-    0
-}
+{}
 
 /// With every leaf known, every value is known and is the signal's. Whatever the leaves are, a known
 /// value is the signal's under each assignment that the leaves admit.
-pub fn known_values_stand() -> u8
+pub fn known_values_stand()
     ensures exact { (turn : Option ℕ) (net : Net) (leaves : List Trit) (x : ℕ → Bool) → LegalNet net → length leaves ≡ net.inputs → Known leaves net.inputs x → Known (walked trit_pick trit_of turn net.rows leaves) (size net) (value turn net x) }
     ensures sound { (turn : Option ℕ) (net : Net) (leaves : List Trit) (x : ℕ → Bool) → LegalNet net → length leaves ≡ net.inputs → Admit trit_admits leaves net.inputs (λ i. always (x i)) → (s : ℕ) (d : Trit) (b : Bool) → s < size net → slice_index_or (walked trit_pick trit_of turn net.rows leaves) s d ≡ trit_of b → value turn net x s ≡ b }
-{
-    0
-}
+{}
