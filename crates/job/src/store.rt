@@ -44,7 +44,7 @@ fn put_record(out: &mut [u8], at: usize, row: &Row)
     let count = usize::from(row.count);
     let wide = width(row.count);
     out[at] = row.count;
-    put_signals(out, at + 1, &row.fanins[0..count]);
+    put_signals(out, at + 1, row.used());
     put_bytes(out, at + 1 + 2 * count, &row.function.bytes[..wide]);
 }
 

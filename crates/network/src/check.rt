@@ -56,6 +56,7 @@ impl Row {
     /// The fanins: the places that are used.
     pub fn used(&self) -> &[Signal]
         ensures value { result.now ≡ take self.now.count self.now.fanins }
+        ensures count { self.now.count ≤ max_fanins → length result.now ≡ self.now.count }
         ensures fanin { (i : ℕ) → i < length result.now → (slice_index_or result.now i no_signal).0 ≡ fanin self.now i }
     {
         &self.fanins[0..(self.count as usize).min(MAX_FANINS)]

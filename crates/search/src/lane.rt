@@ -32,8 +32,5 @@ pub fn minterm<E: Exact>(row: &Row, lane: usize, values: &[E::Value]) -> Minterm
     requires lower { Lower (length values.now) row.now }
     ensures { (a : ℕ → LaneRow) → AdmitFanins E.Logic.admits row.now values.now a → result.0 ≡ reads row.now (λ s. a s lane) }
 {
-    // The places as a slice of their own: a proof then knows how many there are.
-    let places = &row.fanins[..];
-    let fanins = &places[..row.count as usize];
-    Minterm(number_of(fanins, |fanin| E::read(values[fanin.0 as usize], lane)) as u16)
+    Minterm(number_of(row.used(), |fanin| E::read(values[fanin.0 as usize], lane)) as u16)
 }

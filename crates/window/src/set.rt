@@ -72,7 +72,6 @@ impl SignalSet {
         requires small { (i : ℕ) → i < row.now.count → fanin row.now i < max_signals }
         ensures { (s : ℕ) → has self.new s ≡ (has self.old s || is_fanin row.now s) }
     {
-        let places = &row.fanins[..];
-        self.insert_all(&places[..row.count as usize]);
+        self.insert_all(row.used());
     }
 }
