@@ -61,6 +61,7 @@ fn put_words(signals: &[Signal], values: &[u64], words: &mut [u64])
     ensures { words.new ≡ over (map (λ j. slice_index values.now (get_or signals.now j no_signal).0) (range_with_len 0 (min (length signals.now) (length words.old)))) words.old }
 {
     let count = signals.len().min(words.len());
+    // By place, and no zip: over a zip of places that are written the proof did not close.
     for (j, word) in words[0..count].iter_mut().enumerate() {
         *word = values[signals[j].0 as usize];
     }

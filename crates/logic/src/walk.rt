@@ -1,4 +1,7 @@
 //! The one walk over the nodes of a network.
+//!
+//! Values and scratch are slices that the caller lends and reads between the walks, so their lengths stand in
+//! each contract: a struct round them would be made anew for each call.
 ghost use Rattle.std.specs.Prelude.{◌≡◌, ℕ, ◌<◌, ◌≤◌, Bool, length, take};
 ghost use Rattle.network.specs.Limits.{minterms};
 ghost use Rattle.network.specs.Nets.{size, nodes};
