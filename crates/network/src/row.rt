@@ -21,7 +21,8 @@ pub struct Function {
 
 /// A node's fanins, the first `count` of `fanins`, and its function, with nothing known of them.
 /// An array with a count beside it, and no `Vec`: rows are plain data that is copied, and a walk over
-/// them follows no pointers.
+/// them follows no pointers. A function that has to know more of a row asks it, since a plain row is of
+/// no network; of its own rows a network knows it.
 #[derive(Clone, Copy)]
 pub struct Row {
     pub count: u8,

@@ -19,7 +19,8 @@ fn insert_at<T: Copy>(places: &mut [T], count: usize, at: usize, item: T)
     part.rotate_right(1);
 }
 
-/// Adds the item to the `count` entries that stand first in `places`.
+/// Adds the item to the `count` entries that stand first in `places`. These are a roll's fields, taken
+/// apart: what a roll knows of them holds again only when both have changed.
 pub fn enter<T: Ranked>(places: &mut [T], count: usize, item: T) -> Added
     requires { IsRoll T.below count places.old }
     ensures { Adds T.below item count places.old result places.new }

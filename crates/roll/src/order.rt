@@ -1,7 +1,8 @@
 //! What the entries of a roll are ordered by.
 ghost use Rattle.std.specs.Prelude.{◌≡◌, Bool, true, false};
 
-/// A total order: of two values that are not equal exactly one is below the other.
+/// A total order: of two values that are not equal exactly one is below the other. `Ord` of the standard
+/// library does not say so much, since it may hold two values equal that differ, and a roll's entries differ.
 pub trait Ranked: Copy {
     ghost below: { Self → Self → Bool };
 

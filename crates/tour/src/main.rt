@@ -18,6 +18,7 @@ struct FunctionBits<'a>(&'a Row);
 
 impl fmt::Display for FunctionBits<'_> {
     fn fmt<W: fmt::Write>(&self, f: &mut fmt::Formatter<W>) -> fmt::Result {
+        // A minterm is a number, and no list holds them.
         for y in (0..1u16 << self.0.count.min(8)).rev() {
             write!(f, "{}", u8::from(self.0.function.bit(Minterm(y))))?;
         }
@@ -55,6 +56,7 @@ fn show_network(rt: &HostRuntime, network: &Network) -> anyhow::Result<()> {
 /// The outputs under the first assignments.
 fn show_outputs(rt: &HostRuntime, network: &Network) -> anyhow::Result<()> {
     println!(rt; "values:")?;
+    // An assignment is a number, and no list holds them.
     for x in 0..1u64 << network.inputs().min(3) {
         let bits = outputs(network, Assignment(x));
         println!(rt; "  assignment {x}: outputs {bits}")?;

@@ -48,7 +48,7 @@ impl SignalSet {
         &self.flags
     }
 
-    /// One signal more.
+    /// One signal more, which is one of those that a network can have, as an index is one of a slice's.
     pub fn insert(&mut self, signal: Signal)
         requires { signal.0 < max_signals }
         ensures { (s : ℕ) → has self.new s ≡ (has self.old s || signal.0 == s) }
