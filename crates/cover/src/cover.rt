@@ -15,7 +15,7 @@ use crate::prune::prune;
 #[derive(Clone, Copy, PartialEq, Eq, Debug, Drop)]
 pub enum CoverError {
     /// The list has fewer places than the node has minterms.
-    Short,
+    Short = 17,
 }
 
 impl CoverError {
@@ -23,10 +23,7 @@ impl CoverError {
     pub fn number(self) -> u8
         ensures { result ≡ number_of self }
     {
-        // The causes of all crates are numbered in one row, so the number is written out.
-        match self {
-            CoverError::Short => 17,
-        }
+        self as u8
     }
 }
 

@@ -13,19 +13,19 @@ use std::fmt;
 #[derive(Clone, Copy, PartialEq, Eq, Debug, Drop)]
 pub enum Cause {
     /// The file ends in its head.
-    HeadShort,
+    HeadShort = 1,
     /// I, O or N is beyond its range.
-    CountRange,
+    CountRange = 2,
     /// A pair is out of line or past the end.
-    PairLine,
+    PairLine = 3,
     /// f is above 8, or the record's length is wrong.
-    RecordShape,
+    RecordShape = 4,
     /// A fanin is not lower, or an output is no signal.
-    SignalRange,
+    SignalRange = 5,
     /// A function bit at or above 2^f is set.
-    StrayBit,
+    StrayBit = 6,
     /// The bytes supplied for writing are too few.
-    OutputShort,
+    OutputShort = 18,
 }
 
 /// A cause, and the first byte of the field at fault.
@@ -46,15 +46,7 @@ impl Cause {
     pub fn number(self) -> u8
         ensures { result ≡ number_of self }
     {
-        match self {
-            Cause::HeadShort => 1,
-            Cause::CountRange => 2,
-            Cause::PairLine => 3,
-            Cause::RecordShape => 4,
-            Cause::SignalRange => 5,
-            Cause::StrayBit => 6,
-            Cause::OutputShort => 18,
-        }
+        self as u8
     }
 
     /// The cause in words, for a person.

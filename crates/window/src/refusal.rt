@@ -25,6 +25,7 @@ impl ContextError {
     pub fn number(self) -> Option<u8>
         ensures { result ≡ number_of self }
     {
+        // Want of memory has no number to cast, so each is written out.
         match self {
             ContextError::NoNode => Some(8),
             ContextError::Level => Some(9),
