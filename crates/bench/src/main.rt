@@ -102,6 +102,7 @@ fn checksum<L: Measured>(network: &Network, walks: u64) -> u64
     let mut measurement = Measurement { state: 1, sum: 0 };
     let mut values = [L::constant(false); MAX_SIGNALS];
     let mut fold = [L::constant(false); MINTERMS];
+    // So many walks, and nothing is indexed.
     for _ in 0..walks {
         measurement.walk::<L>(network, &mut values, &mut fold);
     }

@@ -30,6 +30,7 @@ pub fn prune(on: Function, cubes: &mut [Cube]) -> usize
     ensures cubes { take result cubes.new ≡ pruned (members on) [] cubes.old }
     ensures few { result ≤ length cubes.old }
 {
+    // An array, with a place for as many cubes as there can be: no memory can be wanting.
     let mut later = [none(); MINTERMS];
     fill_later(cubes, &mut later);
     let mut left = on;
