@@ -18,14 +18,6 @@ fn reads_marked(fanins: &[Signal], marks: &[bool]) -> bool
     fanins.iter().any(|fanin| marks[fanin.0 as usize])
 }
 
-/// Unmarks the first `count` signals.
-fn unmark(count: usize, marks: &mut [bool])
-    requires { count ≤ length marks.old }
-    ensures { marks.new ≡ over (replicate count false) marks.old }
-{
-    marks[0..count].fill(false);
-}
-
 /// Marks a node and every node that depends on it, and unmarks every other signal.
 pub fn mark_dependents(network: &Network, target: usize, marks: &mut [bool])
     requires aimed { target < nodes (net_of network.now) }
@@ -33,8 +25,9 @@ pub fn mark_dependents(network: &Network, target: usize, marks: &mut [bool])
     ensures marks { Marked (net_of network.now) target marks.new }
     ensures rest { drop (size (net_of network.now)) marks.new ≡ drop (size (net_of network.now)) marks.old }
 {
+    // The target is asked to be a node as an index is asked to be in range: no other number has dependents.
     let inputs = network.inputs();
-    unmark(inputs, marks);
+    marks[..inputs].fill(false);
     for (n, row) in network.rows().iter().enumerate() {
         marks[inputs + n] = (n == target) | reads_marked(row.used(), marks);
     }

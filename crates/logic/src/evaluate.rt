@@ -22,6 +22,7 @@ pub fn put_bits(x: Assignment, count: usize, values: &mut [bool])
     requires room { count ≤ length values.old }
     ensures { values.new ≡ over (map (bit_at x.0) (range_with_len 0 count)) values.old }
 {
+    // A count beside the slice: of a part lent alone each caller would have to show that the rest stays.
     for (i, value) in values[0..count].iter_mut().enumerate() {
         *value = (x.0 >> i) % 2 == 1;
     }

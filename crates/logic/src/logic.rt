@@ -35,6 +35,7 @@ pub trait Exact: Logic {
     ghost row: { Self.Value → LaneRow };
 
     /// The bit that a value has in a lane.
+    // A lane below LANES is asked for as an index is: a value says nothing of any other.
     fn read(value: Self::Value, lane: usize) -> bool
         requires { lane < Self.Logic.LANES }
         ensures { (a : LaneRow) → Self.Logic.admits value a → result ≡ a lane };

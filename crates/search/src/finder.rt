@@ -16,6 +16,7 @@ pub trait Finder {
     /// A finder that is free to choose leaves it open.
     ghost may: { Self → Context → Listed → ℕ → ℕ → Answer → Self → Type 0 };
 
+    // What a look is given stands in its signature, since the rules speak of each.
     fn look(&mut self, context: &Context, listed: &Listed, from: u64, budget: u32) -> Answer
         ensures rules { Rules context.now listed.now from budget result }
         ensures may { may self.old context.now listed.now from budget result self.new };

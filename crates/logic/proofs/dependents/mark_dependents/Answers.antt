@@ -1,6 +1,6 @@
-use Rattle.std.proofs.Common.{◌≡◌, ℕ, ◌+◌, ◌<◌, ◌≤◌, Bool, false, ◌||◌, eqb, List, length, get_or, take, drop, set, replicate, sym, ap, ◌∙◌, arith}
+use Rattle.std.proofs.Common.{◌≡◌, ℕ, ◌+◌, ◌++◌, ◌<◌, ◌≤◌, Bool, false, ◌||◌, eqb, List, length, get_or, take, drop, set, replicate, sym, refl, ap, ◌∙◌, arith}
 use mathlib.Core.Path.{subst⁻¹}
-use Rattle.std.proofs.lemmas.List.{take_all}
+use Rattle.std.proofs.lemmas.List.{take_all, length-take-le, length-replicate}
 use Rattle.network.specs.Rows.{blank, Legal}
 use Rattle.network.specs.Nets.{Net, nodes, size, row_at}
 use Rattle.network.specs.Parts.{net_of}
@@ -21,13 +21,17 @@ reads_marked-requires c i h =
     let legal : Legal (net.inputs + n) (get_or c.rows-row-items.result.now n blank) = subst⁻¹ (λ (rs : List Row). Legal (net.inputs + n) (get_or rs n blank)) same (c.rows-row-items.ensures.legal.row n lt) in
     omega (arith, used-lower (net.inputs + n) (get_or c.rows-row-items.result.now n blank) c.used.result.now legal c.used.ensures.value i h)
 
+-- the first `count` marks are filled with false
+unmarked : (count k : ℕ) (es vs : List Bool) → es ≡ replicate (length (take count vs)) false → count ≤ length vs → count ≡ k → es ++ drop count vs ≡ over (replicate k false) vs
+unmarked count k es vs filled room same =
+    ap (λ fs. fs ++ drop count vs) (filled ∙ ap (λ n. replicate n false) (length-take-le count vs room ∙ same))
+    ∙ ap (λ n. replicate k false ++ drop n vs) (same ∙ sym (length-replicate k false))
+
 pub loop-n-init : goal.loop-n-init
 loop-n-init c =
     let net : Net = net_of c.args.network.now in
-    let t : ℕ = net.inputs + c.args.target in
-    let is : c.unmark.new.marks ≡ over (replicate net.inputs false) c.args.marks.now =
-    c.unmark.ensures ∙ ap (λ k. over (replicate k false) c.args.marks.now) c.inputs-inputs.ensures in
-    subst⁻¹ (λ (vs : List Bool). Front vs (net.inputs + 0) (dependents t net) vs) is (marks-none t net (lowers c.rows-row-items.ensures.legal) c.args.marks.now)
+    let is = unmarked c.inputs-inputs.result net.inputs c.fill.new.self c.args.marks.now (c.fill.ensures.after (λ y e. e)) (omega arith) c.inputs-inputs.ensures in
+    subst⁻¹ (λ (vs : List Bool). Front vs (net.inputs + 0) (dependents (net.inputs + c.args.target) net) vs) is (marks-none (net.inputs + c.args.target) net (lowers c.rows-row-items.ensures.legal) c.args.marks.now)
 
 pub loop-n-preserved : goal.loop-n-preserved
 loop-n-preserved c =
@@ -36,7 +40,7 @@ loop-n-preserved c =
     let t : ℕ = k + c.args.target in
     let n : ℕ = c.loop-n.n in
     let vs = c.loop-n.marks in
-    let es = c.unmark.new.marks in
+    let es : List Bool = c.fill.new.self ++ drop c.inputs-inputs.result c.args.marks.now in
     let v : Bool = eqb n c.args.target || c.reads_marked.result in
     let low = lowers c.rows-row-items.ensures.legal in
     let same : c.rows-row-items.result.now ≡ net.rows = c.rows-row-items.ensures.value in
@@ -62,6 +66,7 @@ returns c =
     let place : c.inputs-inputs.result ≤ size net = omega arith in
     record {
       marks = ap (λ m. take m vs) (sym all) ∙ c.loop-n.invariant.front ∙ ap (λ m. take m (dependents t net)) all ∙ take_all (size net) (dependents t net) whole;
-      rest = ap (λ m. drop m vs) (sym all) ∙ c.loop-n.invariant.rest ∙ ap (λ m. drop m c.unmark.new.marks) all ∙ ap (drop (size net)) c.unmark.ensures ∙
+      rest = ap (λ m. drop m vs) (sym all) ∙ c.loop-n.invariant.rest ∙ ap (λ m. drop m (c.fill.new.self ++ drop c.inputs-inputs.result c.args.marks.now)) all ∙
+          ap (drop (size net)) (unmarked c.inputs-inputs.result c.inputs-inputs.result c.fill.new.self c.args.marks.now (c.fill.ensures.after (λ y e. e)) (omega arith) refl) ∙
           behind c.inputs-inputs.result (size net) c.args.marks.now place;
     }
