@@ -12,3 +12,4 @@ pub mod Wheres
 pub mod Turns
 pub mod Outputs
 pub mod TritLaws
+pub mod Numbers

@@ -8,3 +8,4 @@ pub mod Sets
 pub mod Walks
 pub mod Depends
 pub mod Digits
+pub mod Items

@@ -10,6 +10,7 @@ ghost use Rattle.logic.specs.Walks.{over};
 use crate::bits::Bits;
 use crate::front::put_front;
 use crate::limits::WORD_BITS;
+use crate::number::number_of;
 use crate::walk::walk;
 use crate::words::Words;
 use network::limits::{MAX_SIGNALS, MINTERMS};
@@ -33,14 +34,8 @@ fn gather(signals: &[Signal], values: &[bool]) -> u64
     requires { (j : ℕ) → j < length signals.now → (get_or signals.now j no_signal).0 < length values.now }
     ensures { result ≡ number (λ j. get_or values.now (get_or signals.now j no_signal).0 false) (min (length signals.now) word_bits) }
 {
-    let mut bits = 0u64;
     let count = signals.len().min(WORD_BITS);
-    for (j, signal) in signals[0..count].iter().enumerate() {
-        if values[signal.0 as usize] {
-            bits += 1u64 << j;
-        }
-    }
-    bits
+    number_of(&signals[..count], |signal| values[signal.0 as usize])
 }
 
 /// The outputs under an assignment, output j as bit j, as far as a word has bits. Bits of the assignment

@@ -9,6 +9,7 @@ pub mod front;
 pub mod limits;
 pub mod logic;
 pub mod needed;
+pub mod number;
 pub mod ternary;
 pub mod trit;
 pub mod turned;

@@ -1,5 +1,5 @@
 -- What is read in a lane.
-use Rattle.std.proofs.Common.{get_or, Bool, List, None, Option, Some, add-one, ap, ap₂, arith, cond, false, length, map, not, refl, sym, true, zero-le, ℕ, ◌+◌, ◌<◌, ◌^◌, ◌∙◌, ◌≡◌, ◌≤◌}
+use Rattle.std.proofs.Common.{get_or, Bool, List, None, Option, Some, ap, ap₂, arith, false, length, map, not, refl, sym, true, zero-le, ℕ, ◌<◌, ◌∙◌, ◌≡◌, ◌≤◌}
 use mathlib.Core.Bool.{xor, beq}
 use denote.Param.Members.{Mut}
 use denote.Ref.{Bor}
@@ -18,28 +18,10 @@ use Rattle.window.specs.declared.extracted.Context.{Context}
 use Rattle.search.specs.Contexts.{net_in}
 use Rattle.search.specs.Lanes.{unlike, Shown, Lowest}
 use Rattle.search.proofs.Anys.{any-listed}
-use Rattle.theory.specs.Values.{number}
-use Rattle.theory.proofs.Numbers.{pow-twice}
 use Rattle.logic.specs.Lanes.{LaneRow, Admit}
 use Rattle.logic.specs.Bits.{bit_admits}
 use Rattle.logic.specs.Walks.{over}
 use Rattle.logic.proofs.Fronts.{counted-at}
-
--- one bit more of a number
-pub number_step : (x : ℕ → Bool) (i y y' : ℕ) (b : Bool) → y ≡ number x i → b ≡ x i → y' ≡ y + cond b (2 ^ i) 0 → y' ≡ number x (i + 1)
-unfolding number
-number_step x i y y' b old bit new =
-    new ∙ ap (λ n. n + cond b (2 ^ i) 0) old ∙ ap (λ v. number x i + cond v (2 ^ i) 0) bit ∙ sym (ap (number x) (add-one i))
-
-pub bit-most : (b : Bool) (n : ℕ) → cond b n 0 ≤ n
-bit-most true n = omega arith
-bit-most false n = omega arith
-
--- it has one bit more
-pub step-below : (i y y' : ℕ) (b : Bool) → y < 2 ^ i → y' ≡ y + cond b (2 ^ i) 0 → y' < 2 ^ (i + 1)
-step-below i y y' b low new =
-    let up : 2 ^ (i + 1) ≡ 2 ^ i + 2 ^ i = ap (λ n. 2 ^ n) (add-one i) ∙ pow-twice i in
-    omega (arith, bit-most b (2 ^ i))
 
 -- two bits that were compared
 pub xor-compared : (a b : Bool) → not (beq a b) ≡ xor a b

@@ -19,10 +19,6 @@ AdmitEach {V} admits ss vs rows = (j : ℕ) (d : V) → j < length ss → admits
 abbrev pub AdmitFanins : {V : Type 0} → (V → LaneRow → Type 0) → Row → List V → (ℕ → LaneRow) → Type 0
 AdmitFanins {V} admits r vs rows = (i : ℕ) (d : V) → i < r.count → admits (slice_index_or vs (fanin r i) d) (rows (fanin r i))
 
--- x is item k of the list
-abbrev pub IsItem : {T : Type 0} → List T → ℕ → T → Type 0
-IsItem xs k x = (k < length xs) × (slice_index_or xs k x ≡ x)
-
 -- the values of a signal in two lists have different bits in lane l
 abbrev pub unlike : {V : Type 0} → (V → LaneRow) → List V → List V → ℕ → V → Signal → Bool
 unlike row plain turned l d s = xor (row (slice_index_or plain s.0 d) l) (row (slice_index_or turned s.0 d) l)

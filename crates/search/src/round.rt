@@ -5,11 +5,11 @@ ghost use Rattle.logic.specs.Limits.{word_bits};
 ghost use Rattle.search.specs.Contexts.{net_in, space};
 ghost use Rattle.search.specs.Rounds.{lane_at, Round};
 
-use crate::lane::number_of;
 use crate::listed::Listed;
 use crate::plan::Plan;
 use logic::front::put_front;
 use logic::logic::Exact;
+use logic::number::number_of;
 use logic::words::Words;
 use network::limits::{MAX_SIGNALS, MINTERMS};
 use network::row::Assignment;

@@ -1,9 +1,9 @@
 use Rattle.std.proofs.Common.{◌≡◌, ℕ, ◌+◌, ◌^◌, ◌<◌, Bool, cond, sym, refl, ap, ◌∙◌, arith}
 use Rattle.std.proofs.lemmas.Nat.{one_shl}
 use Rattle.theory.specs.Values.{number}
-use Rattle.search.proofs.Lanes.{number_step, step-below}
-use Rattle.search.proofs.lane.number_of.Goals as goal
-use Rattle.search.proofs.lane.number_of.Goals.{then-bit, else-bit}
+use Rattle.logic.proofs.Numbers.{number_step, step-below}
+use Rattle.logic.proofs.number.number_of.Goals as goal
+use Rattle.logic.proofs.number.number_of.Goals.{then-bit, else-bit}
 
 pub bit-requires : goal.bit-requires
 bit-requires g c = c.requires.bit c.loop-i.i _ (c.loop-i-test.true, sym c.index-items-i.is)

@@ -1,7 +1,7 @@
 use Rattle.std.proofs.Common.{◌≡◌, ℕ, ◌^◌, ◌<◌, Bool}
 use Rattle.theory.specs.Values.{number}
-use Rattle.search.specs.Lanes.{IsItem}
-use Rattle.search.proofs.lane.number_of.Given as goal
+use Rattle.logic.specs.Items.{IsItem}
+use Rattle.logic.proofs.number.number_of.Given as goal
 
 abbrev pub invariant-loop-i : goal.invariant-loop-i
 invariant-loop-i g l =
