@@ -36,7 +36,7 @@ fn count_literals(cubes: &[Cube]) -> usize
 }
 
 /// Writes the cover into places for as many cubes as there are minterms. How many cubes and how many
-/// literals it has.
+/// literals it has. A function of its own, since the laws that `cover` ensures are proved from this.
 fn write(target: &CareFunction, places: &mut [Cube]) -> (usize, usize)
     requires { length places.old ≡ 2 ^ target.now.fanins.count }
     ensures cubes { result.0 ≡ length (rising_cover target.now) }

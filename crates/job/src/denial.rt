@@ -49,7 +49,7 @@ impl Cause {
         self as u8
     }
 
-    /// The cause in words, for a person.
+    /// The cause in words, for a person: what `Display` prints, as a text that a contract can name.
     pub fn words(self) -> &'static str
         ensures { Says self result.now }
     {

@@ -76,7 +76,6 @@ pub fn node_value<L: Logic>(row: &Row, values: &[L::Value], fold: &mut [L::Value
     requires scratch { minterms ≤ length fold.old }
     ensures { (d : L.Value) → result ≡ node_of L.Logic.picks L.Logic.constants row.now (λ s. slice_index_or values.now s d) }
 {
-    // By the array and its count: through `used` and `split_first` a walk at words takes up to a tenth longer.
     if row.count == 0 {
         return L::constant(row.function.bit(Minterm(0)));
     }

@@ -35,7 +35,7 @@ impl Function {
         requires { count ≤ max_fanins }
         ensures { Decides result (Clean count self.now) }
     {
-        // A minterm is a number, and no list holds them.
+        // A minterm is a number, and no list holds them; of `all` over a range the proof did not close.
         for y in (1u16 << count)..MINTERMS as u16 {
             if self.bit(Minterm(y)) {
                 return false;

@@ -10,7 +10,7 @@ pub struct Signal(pub u16);
 pub struct Minterm(pub u16);
 
 /// An assignment: a number whose bit i is the value of primary input i, or of leaf i of a window.
-#[derive(Clone, Copy, PartialEq, Eq)]
+#[derive(Clone, Copy, PartialEq, Eq, Debug)]
 pub struct Assignment(pub u64);
 
 /// The truth table of a node: the value at minterm y is bit y mod 8 of byte y div 8.

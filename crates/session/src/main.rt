@@ -22,6 +22,7 @@ fn answer_words(rt: &HostRuntime, boards: &mut Boards, words: &[&str]) -> anyhow
     };
     match boards.answer(call) {
         Ok(answer) => println!(rt; "ok {answer}")?,
+        // Want of memory ends the session; any other refusal is an answer.
         Err(Denied::NoMemory(e)) => return Err(e.into()),
         Err(denied) => println!(rt; "no {denied}")?,
     }

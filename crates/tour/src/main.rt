@@ -192,6 +192,7 @@ fn run(rt: &HostRuntime) -> anyhow::Result<()> {
     let job = match Job::read(heap, bytes.as_slice()) {
         Ok(job) => job,
         Err(ReadError::Refused(refusal)) => return show_refusal(rt, "standard input", refusal),
+        // Want of memory ends the tour; a refusal is shown.
         Err(e) => return Err(e.into()),
     };
     let inputs = job.network().inputs();

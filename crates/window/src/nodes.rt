@@ -46,7 +46,8 @@ pub fn node_row(network: &Network, n: usize) -> &Row
     &network.rows()[n]
 }
 
-/// The marks, and the nodes whose numbers pass the test.
+/// The marks, and the nodes whose numbers pass the test. Loops that do more with a node than mark it stand
+/// where they are: each changes another thing, and some may fail.
 pub(crate) fn with_nodes<F: Fn(usize) -> bool>(
     network: &Network,
     marks: SignalSet,

@@ -5,7 +5,7 @@ ghost use Rattle.window.specs.Scopes.{too_high};
 use crate::limits::MAX_LEVEL;
 
 /// `specs/Scopes.antt` says which members each has.
-#[derive(Clone, Copy)]
+#[derive(Clone, Copy, PartialEq, Eq, Debug)]
 pub enum Scope {
     /// All nodes.
     Whole,

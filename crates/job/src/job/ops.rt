@@ -16,7 +16,7 @@ use network::row::Function;
 use std::alloc::{AllocError, Global};
 
 impl Job {
-    /// The job of a network; None where it has no outputs or too many.
+    /// The job of a network; None where it has no outputs or too many, which is the one way to fail.
     pub fn from_network(network: Network) -> Option<Job>
         ensures { MatchOption result ((0 < length (net_of network).outputs) → length (net_of network).outputs ≤ max_outputs → ⊥) (λ j. j.network ≡ network) }
     {

@@ -35,7 +35,8 @@ fn gather(heap: Global, region: Region) -> Result<Context, ContextError>
     assemble(heap, Numbered::of(heap, region)?)
 }
 
-/// The context, or the first refusal that applies.
+/// The context, or the first refusal that applies. A function of its own, since the laws that `build`
+/// ensures are proved from what this one does.
 fn judge(
     heap: Global,
     network: &Network,
