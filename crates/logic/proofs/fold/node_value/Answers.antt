@@ -2,24 +2,8 @@ use Rattle.std.proofs.Common.{◌≡◌, ℕ, ◌+◌, ◌-◌, ◌*◌, ◌%◌
 use Rattle.std.proofs.lemmas.List.{get_or_default, get_or_append_left, length-take-le}
 use Rattle.network.specs.Rows.{bit_of, fanin}
 use Rattle.logic.specs.Folds.{Holds, folded_at}
-use Rattle.logic.proofs.Halves.{Half, half}
+use Rattle.logic.proofs.Halves.{half}
 use Rattle.logic.proofs.fold.node_value.Goals as goal
-
-pub slice_bounds-put_pairs-end : goal.slice_bounds-put_pairs-end
-slice_bounds-put_pairs-end g c =
-    let h : Half c.args.row.now.count = half c.args.row.now.count (omega arith) c.requires.few in
-    omega (arith, h.whole, h.pairs)
-
-pub put_pairs-requires-clause-few : goal.put_pairs-requires-clause-few
-put_pairs-requires-clause-few g c =
-    let h : Half c.args.row.now.count = half c.args.row.now.count (omega arith) c.requires.few in
-    let m : ℕ = (1 * 2 ^ (c.args.row.now.count - 1)) % 2 ^ 64 in
-    omega (arith, h.whole, h.pairs, length-take-le (m - 0) c.split_at_mut-picks.result.1.now (omega (arith, h.whole, h.pairs)))
-
-pub fold_further-requires : goal.fold_further-requires
-fold_further-requires g c =
-    let h : Half c.args.row.now.count = half c.args.row.now.count (omega arith) c.requires.few in
-    record { some = omega arith; few = c.requires.few; lower = c.requires.lower; room = omega (arith, h.pairs) }
 
 pub returns : goal.returns
 returns g c d =
