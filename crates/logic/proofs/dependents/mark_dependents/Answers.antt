@@ -12,15 +12,6 @@ use Rattle.logic.proofs.Fronts.{Front}
 use Rattle.logic.proofs.Depends.{any-listed, used-lower, eqb-add, behind, depends, depends-size, marks-none, marks-next, marks-more}
 use Rattle.logic.proofs.dependents.mark_dependents.Goals as goal
 
-pub reads_marked-requires : goal.reads_marked-requires
-reads_marked-requires c i h =
-    let net : Net = net_of c.args.network.now in
-    let n : ℕ = c.loop-n.n in
-    let same : c.rows-row-items.result.now ≡ net.rows = c.rows-row-items.ensures.value in
-    let lt : n < nodes net = omega (arith, ap length same) in
-    let legal : Legal (net.inputs + n) (get_or c.rows-row-items.result.now n blank) = subst⁻¹ (λ (rs : List Row). Legal (net.inputs + n) (get_or rs n blank)) same (c.rows-row-items.ensures.legal.row n lt) in
-    omega (arith, used-lower (net.inputs + n) (get_or c.rows-row-items.result.now n blank) c.used.result.now legal c.used.ensures.value i h)
-
 -- the first `count` marks are filled with false
 unmarked : (count k : ℕ) (es vs : List Bool) → es ≡ replicate (length (take count vs)) false → count ≤ length vs → count ≡ k → es ++ drop count vs ≡ over (replicate k false) vs
 unmarked count k es vs filled room same =
