@@ -6,7 +6,7 @@ use network::row::Assignment;
 
 /// What a look answers. `specs/Answers.antt` gives each answer its number and says up to where it has
 /// settled the assignments.
-#[derive(Clone, Copy)]
+#[derive(Clone, Copy, PartialEq, Eq, Debug)]
 pub enum Answer {
     /// An assignment that is not dull.
     Found { at: Assignment, upto: u64 },

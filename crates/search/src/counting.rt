@@ -12,7 +12,8 @@ use window::extracted::Context;
 #[derive(Clone, Copy)]
 pub struct Counting;
 
-/// Settles assignments one by one, until one is not dull, the budget is spent or none is left.
+/// Settles assignments one by one, until one is not dull, the budget is spent or none is left. A function of
+/// its own, since the rules that `look` ensures are proved from what this one does.
 fn count_up(context: &Context, listed: &Listed, from: u64, budget: u32) -> Answer
     ensures { Counts context.now listed.now from budget result }
 {

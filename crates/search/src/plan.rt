@@ -12,7 +12,8 @@ use window::extracted::Context;
 use window::set::SignalSet;
 
 /// The signals of a context that matter to the target or to a root, and for each signal whether it depends
-/// on the target. A walk values no others, and values twice only what depends on the target.
+/// on the target. A walk values no others, and values twice only what depends on the target. It reads both
+/// as slices; as arrays they want no memory.
 #[derive(Clone, Copy)]
 pub struct Plan<'a> {
     context: &'a Context,

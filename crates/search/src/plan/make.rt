@@ -30,10 +30,9 @@ fn needed(context: &Context) -> SignalSet
 {
     let network = context.network();
     let mut set = seeds(context);
-    // Downward over the numbers of the nodes: a number gives a node's signal as well as its row.
-    for n in (0..network.rows().len()).rev() {
+    for (n, row) in network.rows().iter().enumerate().rev() {
         if set.has(node_signal(network, n)) {
-            set.insert_fanins(node_row(network, n));
+            set.insert_fanins(row);
         }
     }
     set
