@@ -3,7 +3,8 @@ ghost use Rattle.std.specs.Prelude.{◌||◌, T};
 
 mod ops;
 
-/// The bits that a signal may have: 0, 1 or either. Two flags are picked faster than three variants.
+/// The bits that a signal may have: 0, 1 or either. Two flags, since a walk at `Option<bool>` takes about a
+/// quarter longer (`docs/PROGRAMS.md` has the figures).
 #[derive(Clone, Copy)]
 pub struct Trit {
     zero: bool,
