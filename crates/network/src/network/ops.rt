@@ -52,10 +52,8 @@ impl Network {
     pub fn node(&self, n: usize) -> Option<Node>
         ensures { MatchOption result (nodes (net_of self.now) ≤ n) (λ m. NodeIs m ((net_of self.now).inputs + n) (row_at (net_of self.now) n)) }
     {
-        match self.table.get(n) {
-            Some(row) => Node::from_row(Signal((self.inputs + n) as u16), row),
-            None => None,
-        }
+        let row = self.table.get(n)?;
+        Node::from_row(Signal((self.inputs + n) as u16), row)
     }
 
     /// One node more, whose row is known to be legal: only memory can be wanting.
