@@ -1,7 +1,7 @@
-use Rattle.std.proofs.Common.{◌≡◌, ℕ, ◌-◌, length, take, refl, subst, arith}
+use Rattle.std.proofs.Common.{◌≡◌, ℕ, ◌-◌, length, take, subst, arith}
 use native.Mathlib.Nat.{sub-zero}
 use Rattle.std.proofs.lemmas.List.{length-take-le}
-use Rattle.roll.specs.Adding.{Stands, Goes}
+use Rattle.roll.specs.Adding.{Goes}
 use Rattle.roll.proofs.Places.{place-within}
 use Rattle.roll.proofs.Adds.{adds-entered}
 use Rattle.roll.proofs.enter.enter.Goals as goal
