@@ -1,7 +1,7 @@
 -- Writes one after another.
 use Rattle.std.proofs.Common.{◌≡◌, ℕ, ◌+◌, ◌<◌, ◌≤◌, List, [], ◌∷◌, ◌++◌, length, get_or, take, drop, set, sym, ap, ◌∙◌, add-zero, add_assoc, zero-add, add-one, arith}
 use borrow.Rule.Slice.PartMut.{put_mid}
-use Rattle.std.proofs.lemmas.List.{append_assoc, take_at, drop_at, drop-drop, length-append, length-take-le, set_split, take-append-drop, take_more}
+use Rattle.std.proofs.lemmas.List.{append_assoc, take_at, drop_at, drop-drop, length-append, length-take-le, length-drop, set_split, take-append-drop, take_more}
 use Rattle.std.specs.List.{flat_map}
 use Rattle.job.proofs.Sizes.{joined-push}
 use Rattle.job.specs.Bytes.{splice}
@@ -31,6 +31,10 @@ splice-splice o a n x y e l =
     ∙ ap (λ z. p ++ (y ++ z)) back
     ∙ append_assoc (take a o) x (y ++ drop (a + length (x ++ y)) o)
     ∙ ap (λ z. take a o ++ z) (sym (append_assoc x y (drop (a + length (x ++ y)) o)))
+
+pub length-splice : (o : List ℕ) (a : ℕ) (x : List ℕ) → a + length x ≤ length o → length (splice o a x) ≡ length o
+unfolding splice
+length-splice o a x l = let a≤ : a ≤ length o = omega arith in simp (length-append, length-take-le a o a≤, length-drop) (omega arith)
 
 pub joined-take-more : {X : Type 0} (f : X → List ℕ) (xs : List X) (i : ℕ) (d : X) → i < length xs → flat_map f (take (i + 1) xs) ≡ flat_map f (take i xs) ++ f (get_or xs i d)
 joined-take-more f xs i d l = ap (flat_map f) (take_more xs i d l) ∙ joined-push f (take i xs) (get_or xs i d)

@@ -56,6 +56,9 @@ due-more bs n = ap (due_of bs) (add-one n)
 pub cons-pass : (c : Check) (cs : List Check) → c.holds ≡ true → verdict (c ∷ cs) ≡ verdict cs
 cons-pass c cs e = ap (λ b. cond b (verdict cs) (Some c.fault)) e
 
+pub cons-stop : (c : Check) (cs : List Check) → c.holds ≡ false → verdict (c ∷ cs) ≡ Some c.fault
+cons-stop c cs e = ap (λ b. cond b (verdict cs) (Some c.fault)) e
+
 pub record-stop : (bs : List ℕ) (s at size : ℕ) (d : Refusal) → verdict (shape_check bs at size ∷ []) ≡ None → verdict (upto (byte_at bs at) (fanin_checks bs s at)) ≡ Some d → verdict (record_checks bs s at size) ≡ Some d
 record-stop bs s at size d e h =
     let rest = stray_check bs (byte_at bs at) (at + 1 + 2 * byte_at bs at) ∷ [] in
