@@ -6,11 +6,11 @@ ghost use Rattle.std.specs.Prelude.{◌*◌, ◌^◌, ◌<◌};
 ghost use Rattle.std.specs.Mem.{type_size};
 
 use anyhow::bail;
-use job::job::Job;
+use job::job::{Job, MAX_OUTPUTS};
+use logic::evaluate::output_values;
 use logic::logic::Logic;
 use logic::ternary::Ternary;
 use logic::trit::Trit;
-use logic::walk::walk;
 use logic::words::Words;
 use network::limits::{MAX_SIGNALS, MINTERMS};
 use network::network::Network;
@@ -82,15 +82,14 @@ impl Measurement {
         network: &Network,
         values: &mut [L::Value; MAX_SIGNALS],
         fold: &mut [L::Value; MINTERMS],
+        outputs: &mut [L::Value; MAX_OUTPUTS],
     ) {
         for leaf in values.iter_mut().take(network.inputs()) {
             *leaf = L::draw(self.next());
         }
-        walk::<L>(network, None, values, fold);
-        for output in network.outputs() {
-            if let Some(value) = values.get(output.0 as usize) {
-                self.add(L::count(*value));
-            }
+        output_values::<L>(network, values, fold, outputs);
+        for value in outputs.iter().take(network.outputs().len()) {
+            self.add(L::count(*value));
         }
     }
 }
@@ -102,9 +101,10 @@ fn checksum<L: Measured>(network: &Network, walks: u64) -> u64
     let mut measurement = Measurement { state: 1, sum: 0 };
     let mut values = [L::constant(false); MAX_SIGNALS];
     let mut fold = [L::constant(false); MINTERMS];
+    let mut outputs = [L::constant(false); MAX_OUTPUTS];
     // So many walks, and nothing is indexed.
     for _ in 0..walks {
-        measurement.walk::<L>(network, &mut values, &mut fold);
+        measurement.walk::<L>(network, &mut values, &mut fold, &mut outputs);
     }
     measurement.sum
 }

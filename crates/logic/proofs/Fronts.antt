@@ -1,6 +1,6 @@
 -- A list whose front is written over, place by place.
 use Rattle.std.proofs.Common.{◌≡◌, ℕ, ◌+◌, ◌-◌, ◌<◌, ◌≤◌, List, ◌++◌, map, length, get_or, take, drop, set, sym, refl, ap, ◌∙◌, arith}
-use Rattle.std.proofs.lemmas.List.{take_more_same, same_lists, take-set, take_all, take_at, take-append-drop, drop-set-lt, drop-drop, length-set, get_or-set_same, get_or_append_left, get_or-take}
+use Rattle.std.proofs.lemmas.List.{take_more_same, same_lists, take-set, take_all, take_at, take-append-drop, drop-set-lt, drop-drop, length-set, get_or-set_same, get_or_append_left, get_or-take, length-append, length-drop}
 use Rattle.std.specs.List.{range_with_len}
 use Rattle.std.proofs.lemmas.List.FromFn.{length-map-range_with_len, get_or-map-range_with_len}
 use Rattle.std.proofs.lemmas.Slice.{drop-append-drop}
@@ -74,3 +74,9 @@ counted-at f n es i d h =
     let z : 0 + i ≡ i = omega arith in
     let l : i < length (map f (range_with_len 0 n)) = omega (arith, length-map-range_with_len f 0 n) in
     over-at (map f (range_with_len 0 n)) es i d l ∙ get_or-map-range_with_len f 0 n i i d h z
+
+pub counted-length : {V : Type 0} (f : ℕ → V) (n : ℕ) (es : List V) → n ≤ length es → length (over (map f (range_with_len 0 n)) es) ≡ length es
+counted-length {V} f n es h =
+    let ws : List V = map f (range_with_len 0 n) in
+    let long : length ws ≡ n = length-map-range_with_len f 0 n in
+    length-append ws (drop (length ws) es) ∙ (let z : length ws + length (drop (length ws) es) ≡ length es = omega (arith, long, length-drop (length ws) es) in z)

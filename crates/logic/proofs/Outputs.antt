@@ -54,8 +54,8 @@ words-given ls k g n i d e le h =
     (cases_lt i g)
 
 -- what is put leaves the places behind it
-pub put_rest : (f : ℕ → ℕ) (n m : ℕ) (es : List ℕ) → n ≤ m → drop m (over (map f (range_with_len 0 n)) es) ≡ drop m es
-put_rest f n m es h =
-    let ws : List ℕ = map f (range_with_len 0 n) in
+pub put_rest : {V : Type 0} (f : ℕ → V) (n m : ℕ) (es : List V) → n ≤ m → drop m (over (map f (range_with_len 0 n)) es) ≡ drop m es
+put_rest {V} f n m es h =
+    let ws : List V = map f (range_with_len 0 n) in
     let long : length ws ≡ n = length-map-range_with_len f 0 n in
     ap (λ k. drop m (ws ++ drop k es)) long ∙ drop-append-drop n es ws m h long

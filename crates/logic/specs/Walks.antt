@@ -3,7 +3,7 @@ use Rattle.std.specs.Prelude.{◌≡◌, ℕ, ◌+◌, ◌<◌, ◌≤◌, Bool,
 use Rattle.network.specs.Nets.{Net, row_at, size}
 use Rattle.network.specs.declared.row.Row.{Row}
 use Rattle.network.specs.declared.row.Signal.{Signal}
-use Rattle.theory.specs.Values.{turns, built, value}
+use Rattle.theory.specs.Values.{turns, built, value, output}
 use Rattle.logic.specs.Lanes.{LaneRow, Admit}
 use Rattle.logic.specs.Folds.{node_of, turned_of}
 use Rattle.logic.specs.Sets.{is_in}
@@ -36,6 +36,11 @@ signal_row turn net rows s l = value turn net (λ i. rows i l) s
 -- whatever rows the leaves' values admit, every value admits the row of its signal's values
 abbrev pub AdmitSignals : {V : Type 0} → (V → LaneRow → Type 0) → Option ℕ → Net → List V → List V → Type 0
 AdmitSignals admits turn net leaves vs = (rows : ℕ → LaneRow) → Admit admits leaves net.inputs rows → Admit admits vs (size net) (signal_row turn net rows)
+
+-- whatever rows the leaves' values admit, the value of each output for which there is room admits the row of the output's values
+abbrev pub AdmitOutputs : {V : Type 0} → (V → LaneRow → Type 0) → Net → List V → List V → Type 0
+AdmitOutputs {V} admits net leaves outs =
+    (rows : ℕ → LaneRow) → Admit admits leaves net.inputs rows → (j : ℕ) (d : V) → j < length net.outputs → j < length outs → admits (slice_index_or outs j d) (λ l. output None net (λ i. rows i l) j)
 
 -- at each of the first n places that is in the set, vs has the value of ws
 abbrev pub WalkedWhere : {V : Type 0} → List Bool → ℕ → List V → List V → Type 0

@@ -12,6 +12,9 @@ use crate::needed::walk_needed;
 use network::limits::MAX_SIGNALS;
 use network::network::Network;
 
+/// Every signal. A static, so that no call has to fill it.
+static ALL: [bool; MAX_SIGNALS] = [true; MAX_SIGNALS];
+
 /// Both walks: as the network is, into `plain`, whose first places hold the leaves' values,
 /// and with the target's value inverted, into `turned`. `marks` has the target's dependents.
 pub fn walk_both<L: Logic>(
@@ -33,6 +36,5 @@ pub fn walk_both<L: Logic>(
     ensures admits { AdmitSignals L.Logic.admits None (net_of network.now) plain.old plain.new }
     ensures inverted { AdmitSignals L.Logic.admits (inverting (net_of network.now) target) (net_of network.now) plain.old turned.new }
 {
-    let all = [true; MAX_SIGNALS];
-    walk_needed::<L>(network, target, &all, marks, plain, turned, fold);
+    walk_needed::<L>(network, target, &ALL, marks, plain, turned, fold);
 }

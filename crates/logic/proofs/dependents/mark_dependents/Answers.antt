@@ -1,6 +1,6 @@
-use Rattle.std.proofs.Common.{◌≡◌, ℕ, ◌+◌, ◌++◌, ◌<◌, ◌≤◌, Bool, false, ◌||◌, eqb, List, length, get_or, take, drop, set, replicate, sym, refl, ap, ◌∙◌, arith}
+use Rattle.std.proofs.Common.{◌≡◌, ℕ, ◌+◌, ◌<◌, ◌≤◌, Bool, false, ◌||◌, eqb, List, length, get_or, take, drop, set, replicate, sym, ap, ◌∙◌, arith}
 use mathlib.Core.Path.{subst⁻¹}
-use Rattle.std.proofs.lemmas.List.{take_all, length-take-le, length-replicate}
+use Rattle.std.proofs.lemmas.List.{take_all}
 use Rattle.network.specs.Rows.{blank, Legal}
 use Rattle.network.specs.Nets.{Net, nodes, size, row_at}
 use Rattle.network.specs.Parts.{net_of}
@@ -9,19 +9,14 @@ use Rattle.theory.proofs.Values.{lowers}
 use Rattle.logic.specs.Walks.{over}
 use Rattle.logic.specs.Depends.{any_marked, dependents}
 use Rattle.logic.proofs.Fronts.{Front}
-use Rattle.logic.proofs.Depends.{any-listed, used-lower, eqb-add, behind, depends, depends-size, marks-none, marks-next, marks-more}
+use Rattle.logic.proofs.Depends.{any-listed, eqb-add, behind, depends, depends-size, marks-none, marks-next, marks-more}
 use Rattle.logic.proofs.dependents.mark_dependents.Goals as goal
-
--- the first `count` marks are filled with false
-unmarked : (count k : ℕ) (es vs : List Bool) → es ≡ replicate (length (take count vs)) false → count ≤ length vs → count ≡ k → es ++ drop count vs ≡ over (replicate k false) vs
-unmarked count k es vs filled room same =
-    ap (λ fs. fs ++ drop count vs) (filled ∙ ap (λ n. replicate n false) (length-take-le count vs room ∙ same))
-    ∙ ap (λ n. replicate k false ++ drop n vs) (same ∙ sym (length-replicate k false))
 
 pub loop-n-init : goal.loop-n-init
 loop-n-init c =
     let net : Net = net_of c.args.network.now in
-    let is = unmarked c.inputs-inputs.result net.inputs c.fill.new.self c.args.marks.now (c.fill.ensures.after (λ y e. e)) (omega arith) c.inputs-inputs.ensures in
+    let is : c.unmark.new.marks ≡ over (replicate net.inputs false) c.args.marks.now =
+    c.unmark.ensures ∙ ap (λ k. over (replicate k false) c.args.marks.now) c.inputs-inputs.ensures in
     subst⁻¹ (λ (vs : List Bool). Front vs (net.inputs + 0) (dependents (net.inputs + c.args.target) net) vs) is (marks-none (net.inputs + c.args.target) net (lowers c.rows-row-items.ensures.legal) c.args.marks.now)
 
 pub loop-n-preserved : goal.loop-n-preserved
@@ -31,7 +26,7 @@ loop-n-preserved c =
     let t : ℕ = k + c.args.target in
     let n : ℕ = c.loop-n.n in
     let vs = c.loop-n.marks in
-    let es : List Bool = c.fill.new.self ++ drop c.inputs-inputs.result c.args.marks.now in
+    let es = c.unmark.new.marks in
     let v : Bool = eqb n c.args.target || c.reads_marked.result in
     let low = lowers c.rows-row-items.ensures.legal in
     let same : c.rows-row-items.result.now ≡ net.rows = c.rows-row-items.ensures.value in
@@ -57,7 +52,6 @@ returns c =
     let place : c.inputs-inputs.result ≤ size net = omega arith in
     record {
       marks = ap (λ m. take m vs) (sym all) ∙ c.loop-n.invariant.front ∙ ap (λ m. take m (dependents t net)) all ∙ take_all (size net) (dependents t net) whole;
-      rest = ap (λ m. drop m vs) (sym all) ∙ c.loop-n.invariant.rest ∙ ap (λ m. drop m (c.fill.new.self ++ drop c.inputs-inputs.result c.args.marks.now)) all ∙
-          ap (drop (size net)) (unmarked c.inputs-inputs.result c.inputs-inputs.result c.fill.new.self c.args.marks.now (c.fill.ensures.after (λ y e. e)) (omega arith) refl) ∙
+      rest = ap (λ m. drop m vs) (sym all) ∙ c.loop-n.invariant.rest ∙ ap (λ m. drop m c.unmark.new.marks) all ∙ ap (drop (size net)) c.unmark.ensures ∙
           behind c.inputs-inputs.result (size net) c.args.marks.now place;
     }

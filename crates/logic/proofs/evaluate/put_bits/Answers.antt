@@ -1,4 +1,4 @@
-use Rattle.std.proofs.Common.{◌≡◌, ℕ, ◌-◌, length, take, refl, ◌∙◌, arith}
+use Rattle.std.proofs.Common.{◌≡◌, ℕ, ◌-◌, length, take, ◌∙◌, arith}
 use Rattle.std.proofs.lemmas.List.{length-take-le}
 use Rattle.network.specs.Rows.{bit_at}
 use Rattle.logic.proofs.Fronts.{counted_put}
@@ -7,7 +7,7 @@ use Rattle.logic.proofs.evaluate.put_bits.Goals as goal
 
 pub loop-i-preserved : goal.loop-i-preserved
 unfolding bit_at
-loop-i-preserved c = put c.loop-i.value-items c.loop-i.i _ (bit_at c.args.x.0) (omega arith) c.loop-i.invariant refl
+loop-i-preserved c = put c.loop-i.value-items c.loop-i.i _ (bit_at c.args.x.0) (omega arith) c.loop-i.invariant c.bit.ensures
 
 pub returns : goal.returns
 returns c =
