@@ -1,8 +1,9 @@
--- The counting finder has just one answer.
-use Rattle.std.proofs.Common.{◌≡◌, ℕ, true, false, sym, refl, ap, ◌∙◌, ⊎_elim, arith}
-use Rattle.std.proofs.lemmas.Bool.{both_ways, cases_order}
+-- The counting finder has just one answer, and it keeps the rules.
+use Rattle.std.proofs.Common.{◌≡◌, ℕ, ◌+◌, ◌<◌, ◌≤◌, true, false, sym, refl, ap, ◌∙◌, ⊎_elim, arith}
+use Rattle.std.proofs.lemmas.Bool.{both_ways, cases_order, cases_lt}
 use Rattle.window.specs.declared.extracted.Context.{Context}
-use Rattle.search.specs.Contexts.{dull_at}
+use Rattle.search.specs.Contexts.{space, dull_at, DullIn, DullTo}
+use Rattle.search.specs.Rules.{Rules}
 use Rattle.search.specs.Counts.{Counts}
 use Rattle.search.specs.declared.listed.Listed.{Listed}
 use Rattle.search.specs.declared.answer.Answer.{Answer}
@@ -28,3 +29,17 @@ module _ (c : Context) (l : Listed) (from b : ℕ) where
   counts-once Exhausted (Found bt vpto) x y = absurd (apart vpto (x.1 vpto y.1 y.3) y.5)
   counts-once Exhausted (Spent vpto) x y = absurd (let z : ⊥ = omega (arith, y.0, y.1, x.0) in z)
   counts-once Exhausted Exhausted x y = refl
+
+  -- what lies below `from` and what lies from there on
+  pub dull-on : (upto : ℕ) → DullTo c l from → DullIn c l from upto → DullTo c l upto
+  dull-on upto low high a h = ⊎_elim (λ lt. low a lt) (λ ge. high a ge h) (cases_lt a from)
+
+  pub counts-keep : (r : Answer) → Counts c l from b r → Rules c l from b r
+  counts-keep (Found at upto) x asked =
+      let small : at.0 < space c = omega (arith, x.0, x.3) in
+      let shown : dull_at c l at.0 ≡ false = ap (dull_at c l) x.0 ∙ x.5 in
+      record { after = x.1; most = omega (arith, x.3); settled = dull-on upto asked.dull x.4; kind = (small, shown) }
+  counts-keep (Spent upto) x asked =
+      let far : from + b ≤ upto = omega (arith, x.0) in
+      record { after = omega (arith, x.0); most = omega (arith, x.1); settled = dull-on upto asked.dull x.2; kind = (far, x.1) }
+  counts-keep Exhausted x asked = record { after = omega (arith, asked.left); most = omega arith; settled = dull-on (space c) asked.dull x.1; kind = tt }

@@ -11,3 +11,4 @@ pub mod plan;
 pub mod round;
 pub mod single;
 pub mod walked;
+pub mod walks;

@@ -7,6 +7,8 @@ ghost use Rattle.search.specs.Rounds.{lane_at, Round};
 
 use crate::listed::Listed;
 use crate::plan::Plan;
+use crate::walked::Walked;
+use crate::walks::walk_context;
 use logic::front::put_front;
 use logic::logic::Exact;
 use logic::number::number_of;
@@ -27,8 +29,8 @@ pub fn round(context: &Context, listed: &Listed, words: &[u64]) -> Option<usize>
     let mut turned = [0u64; MAX_SIGNALS];
     let mut fold = [0u64; MINTERMS];
     put_front(words, &mut plain);
-    let walked = plan.walk::<Words>(&mut plain, &mut turned, &mut fold);
-    walked.lowest_lane(listed)
+    walk_context::<Words>(context, &plan, &mut plain, &mut turned, &mut fold);
+    Walked::<Words>::over(context, &plain, &turned).lowest_lane(listed)
 }
 
 /// The assignment of a lane.

@@ -1,13 +1,17 @@
 //! One assignment.
+ghost use Rattle.std.proofs.Props.{props};
 ghost use Rattle.std.specs.Prelude.{◌≡◌, ◌^◌, ◌<◌};
 ghost use Rattle.network.specs.Rows.{bit_at};
 ghost use Rattle.network.specs.Nets.{row_at};
 ghost use Rattle.theory.specs.Values.{minterm_at};
 ghost use Rattle.search.specs.Contexts.{net_in, dull_at};
+ghost use Rattle.search.specs.Plans.{Plans};
 
 use crate::lane::minterm;
 use crate::listed::Listed;
 use crate::plan::Plan;
+use crate::walked::Walked;
+use crate::walks::walk_context;
 use logic::bits::Bits;
 use logic::evaluate::put_bits;
 use logic::walk::walk;
@@ -33,20 +37,23 @@ pub fn reads_at(context: &Context, at: Assignment) -> Minterm
 /// once in a look.
 #[derive(Drop)]
 pub struct Single<'a> {
-    plan: Plan<'a>,
+    context: &'a Context,
+    plan: Plan,
     listed: Listed,
     plain: [bool; MAX_SIGNALS],
     turned: [bool; MAX_SIGNALS],
     fold: [bool; MINTERMS],
+    ghost planned: { Plans context.now plan } by { Prim.hlevel props },
 }
 
 impl<'a> Single<'a> {
     /// The test of a context's assignments against a list.
     pub fn of(context: &'a Context, listed: &Listed) -> Single<'a>
-        ensures context { result.plan.context.now ≡ context.now }
+        ensures context { result.context.now ≡ context.now }
         ensures listed { result.listed ≡ listed.now }
     {
         Single {
+            context,
             plan: Plan::of(context),
             listed: *listed,
             plain: [false; MAX_SIGNALS],
@@ -57,14 +64,18 @@ impl<'a> Single<'a> {
 
     /// Whether an assignment of the leaves is dull.
     pub fn is_dull(&mut self, at: Assignment) -> bool
-        ensures dull { result ≡ dull_at self.old.plan.context.now self.old.listed at.0 }
-        ensures context { self.new.plan.context.now ≡ self.old.plan.context.now }
+        ensures dull { result ≡ dull_at self.old.context.now self.old.listed at.0 }
+        ensures context { self.new.context.now ≡ self.old.context.now }
         ensures listed { self.new.listed ≡ self.old.listed }
     {
-        put_bits(at, self.plan.context().network().inputs(), &mut self.plain);
-        let walked = self
-            .plan
-            .walk::<Bits>(&mut self.plain, &mut self.turned, &mut self.fold);
-        walked.lane_dull(&self.listed, 0)
+        put_bits(at, self.context.network().inputs(), &mut self.plain);
+        walk_context::<Bits>(
+            self.context,
+            &self.plan,
+            &mut self.plain,
+            &mut self.turned,
+            &mut self.fold,
+        );
+        Walked::<Bits>::over(self.context, &self.plain, &self.turned).lane_dull(&self.listed, 0)
     }
 }

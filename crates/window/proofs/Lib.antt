@@ -1,5 +1,7 @@
 pub mod Functions
 pub mod Marks
+pub mod Lasts
+pub mod Readers
 pub mod Used
 pub mod Steps
 pub mod NodeMarks

@@ -1,11 +1,14 @@
 -- One level more.
-use Rattle.std.proofs.Common.{◌≡◌, ℕ, ◌+◌, ◌-◌, ◌<◌, Bool, false, ◌&&◌, ◌||◌, eqb, get_or, replicate, sym, refl, ap, ◌∙◌, ⊎_elim, add-one, arith}
+use Rattle.std.proofs.Common.{◌≡◌, ℕ, ◌+◌, ◌-◌, ◌<◌, ◌≤◌, Bool, true, false, ◌&&◌, ◌||◌, eqb, nat_eq, get_or, replicate, sym, refl, ap, ◌∙◌, ⊎_elim, add-one, arith}
 use Rattle.std.proofs.lemmas.List.{get_or-replicate, get_or_past, length-replicate}
 use Rattle.std.proofs.lemmas.Bool.{cases_lt, cases_Bool, both_ways, and_parts, and_from, eqb-true, eq-eqb}
-use Rattle.network.specs.Nets.{Net, nodes}
-use Rattle.context.specs.Levels.{into, outof, whole}
+use Rattle.std.proofs.Math.Bool.{and-false}
+use Rattle.network.specs.Rows.{fanin}
+use Rattle.network.specs.Nets.{Net, LegalNet, nodes, row_at}
+use Rattle.network.specs.declared.row.Row.{Row}
+use Rattle.context.specs.Levels.{into, outof, whole, is_fanin}
 use Rattle.context.specs.Care.{any_below}
-use Rattle.context.proofs.Any.{any-find, any_none}
+use Rattle.context.proofs.Any.{any-find, any_none, any-never}
 use Rattle.context.proofs.Levels.{whole-exact}
 use Rattle.window.specs.Sets.{feeds, fed}
 use Rattle.window.proofs.Functions.{same_set}
@@ -36,6 +39,20 @@ module _ (net : Net) (X : ℕ → Bool) where
 
   pub outof-more : (d : ℕ) (Y : ℕ → Bool) → ((s : ℕ) → Y s ≡ outof net X d s) → (s : ℕ) → (Y s || fed net Y (nodes net) s) ≡ outof net X (d + 1) s
   outof-more d Y h s = ap (λ Z. Z s || fed net Z (nodes net) s) (same_set h) ∙ sym (outof-next d s)
+
+-- fanins that are all below m are no signal from m on
+not-fanin : (r : Row) (m s : ℕ) → ((i : ℕ) → i < r.count → fanin r i < m) → m ≤ s → is_fanin r s ≡ false
+not-fanin r m s low le =
+    any-never r.count (λ i. nat_eq (fanin r i) s)
+    (λ i h. ⊎_elim (λ (t : nat_eq (fanin r i) s ≡ true). let e : fanin r i ≡ s = eqb-true _ _ t in absurd (omega (arith, low i h))) (λ f. f) (cases_Bool (nat_eq (fanin r i) s)))
+
+-- the first n nodes read no signal from that of node n on
+pub none-feeds : (net : Net) (X : ℕ → Bool) (n : ℕ) → LegalNet net → n < nodes net → feeds net X n (net.inputs + n) ≡ false
+none-feeds net X n legal h =
+    any-never n (λ j. X (net.inputs + j) && is_fanin (row_at net j) (net.inputs + n))
+    (λ j l.
+    let below : j < nodes net = omega arith in
+    ap (λ b. X (net.inputs + j) && b) (not-fanin (row_at net j) (net.inputs + j) (net.inputs + n) (legal.row j below).lower (omega arith)) ∙ and-false (X (net.inputs + j)))
 
 -- some node is s and has q: s is a node, and has q
 pub common-any : (net : Net) (q : ℕ → Bool) (s : ℕ) → any_below (nodes net) (λ j. eqb (net.inputs + j) s && q (net.inputs + j)) ≡ (whole net s && q s)

@@ -22,27 +22,44 @@ pub fn widen_in(network: &Network, from: &SignalSet, marks: SignalSet) -> Signal
     wider
 }
 
-/// The marks, and the nodes that have a fanin in `from`.
-pub fn widen_out(network: &Network, from: &SignalSet, marks: SignalSet) -> SignalSet
-    ensures { (s : ℕ) → has result s ≡ (has marks s || fed (net_of network.now) (has from.now) (nodes (net_of network.now)) s) }
+/// The set, and the fanins of its nodes. In place: a fanin is lower than its node, so each node is looked at
+/// before anything is inserted that is not lower, and no copy of the set has to be kept.
+fn with_fanins(network: &Network, set: SignalSet) -> SignalSet
+    ensures { (s : ℕ) → has result s ≡ (has set s || feeds (net_of network.now) (has set) (nodes (net_of network.now)) s) }
 {
-    with_nodes(
-        network,
-        marks,
-        |n| from.has_any(node_row(network, n).used()),
-    )
+    let mut wider = set;
+    for (n, row) in network.rows().iter().enumerate() {
+        if wider.has(node_signal(network, n)) {
+            wider.insert_fanins(row);
+        }
+    }
+    wider
+}
+
+/// The set, and the nodes that have a fanin in it. In place, from the last node down: a fanin is lower than
+/// its node, so whatever a node reads is what the set had.
+fn with_readers(network: &Network, set: SignalSet) -> SignalSet
+    ensures { (s : ℕ) → has result s ≡ (has set s || fed (net_of network.now) (has set) (nodes (net_of network.now)) s) }
+{
+    let mut wider = set;
+    for (n, row) in network.rows().iter().enumerate().rev() {
+        if wider.has_any(row.used()) {
+            wider.insert(node_signal(network, n));
+        }
+    }
+    wider
 }
 
 /// The signals from which some signal of the set is reached in at most that many edges.
 pub fn reaching(network: &Network, set: SignalSet, edges: u8) -> SignalSet
     ensures { (s : ℕ) → has result s ≡ into (net_of network.now) (has set) edges s }
 {
-    (0..edges).fold(set, |all, _edge| widen_in(network, &all, all))
+    (0..edges).fold(set, |all, _edge| with_fanins(network, all))
 }
 
 /// The signals that are reached from some signal of the set in at most that many edges.
 pub fn reached(network: &Network, set: SignalSet, edges: u8) -> SignalSet
     ensures { (s : ℕ) → has result s ≡ outof (net_of network.now) (has set) edges s }
 {
-    (0..edges).fold(set, |all, _edge| widen_out(network, &all, all))
+    (0..edges).fold(set, |all, _edge| with_readers(network, all))
 }

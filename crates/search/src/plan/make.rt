@@ -4,7 +4,7 @@ ghost use Rattle.context.specs.Windows.{is_output};
 ghost use Rattle.window.specs.Sets.{has};
 ghost use Rattle.network.specs.Limits.{max_signals};
 ghost use Rattle.search.specs.Contexts.{net_in};
-ghost use Rattle.search.specs.Plans.{Needs};
+ghost use Rattle.search.specs.Plans.{Needs, Plans};
 
 use super::Plan;
 use logic::dependents::mark_dependents;
@@ -38,25 +38,17 @@ fn needed(context: &Context) -> SignalSet
     set
 }
 
-impl<'a> Plan<'a> {
+impl Plan {
     /// The plan of a context.
-    pub fn of(context: &'a Context) -> Plan<'a>
-        ensures { result.context.now ≡ context.now }
+    pub fn of(context: &Context) -> Plan
+        ensures { Plans context.now result }
     {
         let mut marks = [false; MAX_SIGNALS];
         mark_dependents(context.network(), context.target(), &mut marks);
         Plan {
-            context,
             needed: needed(context),
             marks,
         }
-    }
-
-    /// The context.
-    pub(crate) fn context(&self) -> &'a Context
-        ensures { result.now ≡ self.now.context.now }
-    {
-        self.context
     }
 
     /// The signals that matter to the target or to a root.

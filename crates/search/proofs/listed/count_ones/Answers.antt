@@ -8,4 +8,5 @@ pub returns : goal.returns
 returns c =
     let bs = c.args.bytes.now in
     let h : c.sum.result ≡ sum_by count_ones bs = search rules in
-    h ∙ ones-count bs (λ k. omega (arith, c.type_inv.bytes k))
+    let count = h ∙ ones-count bs (λ k. omega (arith, c.type_inv.bytes k)) in
+    omega (arith, count)

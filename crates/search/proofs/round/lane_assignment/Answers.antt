@@ -20,4 +20,6 @@ returns c =
     let e : get_or ws k 0 ≡ r.now = get_or_default ws k 0 r.now (omega (arith, c.requires.enough)) ∙ sym (get_or-take n ws k r.now lt) ∙ item.1 in
     let h : word_admits r.now (bit_at r.now) = λ l h. refl in
     rw e (search (rules, tests))) in
-    record { value = value ∙ ap (number (λ i. bit_at (get_or ws i 0) c.args.lane)) count; small = rw count at c.number_of.ensures.small }
+    let number = value ∙ ap (number (λ i. bit_at (get_or ws i 0) c.args.lane)) count in
+    let small = rw count at c.number_of.ensures.small in
+    record { value = omega (arith, number); small = omega (arith, small) }

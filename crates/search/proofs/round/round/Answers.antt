@@ -22,4 +22,4 @@ returns c =
     let lt : i < length ws = omega (arith, c.requires.enough) in
     ap (λ v. bit_at v lane) (ap (λ (vs : List ℕ). get_or vs i d) c.put_front.ensures ∙ over-at ws _ i d lt ∙ get_or_default ws i d 0 lt) in
     lowest-same word_bits (λ lane. dull_of x l (λ i. rows i lane)) (λ lane. dull_at x l (lane_at x ws lane)) c.lowest_lane.result (dull-lane x l ws)
-    ((rw (c.walk-walked.ensures.context, c.of-plan.ensures) at c.lowest_lane.ensures) rows ((rw c.of-plan.ensures at c.walk-walked.ensures.shown) rows leaves))
+    ((rw (c.over.ensures.context, c.over.ensures.plain, c.over.ensures.turned) at c.lowest_lane.ensures) rows (c.walk_context.ensures.shown rows leaves))

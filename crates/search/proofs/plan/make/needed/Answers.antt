@@ -11,7 +11,8 @@ use Rattle.context.specs.Levels.{is_fanin}
 use Rattle.window.specs.Sets.{has}
 use Rattle.search.specs.Contexts.{net_in}
 use Rattle.search.proofs.Contexts.{legal-in}
-use Rattle.search.proofs.Plans.{front-last, gathered-start, gathered-more, gathered-skip}
+use Rattle.window.proofs.Lasts.{front-last}
+use Rattle.search.proofs.Plans.{gathered-start, gathered-more, gathered-skip}
 use Rattle.search.proofs.plan.make.needed.Goals as goal
 
 pub loop-n-init : goal.loop-n-init

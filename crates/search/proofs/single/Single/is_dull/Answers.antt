@@ -8,8 +8,8 @@ use Rattle.search.proofs.single.Single.is_dull.Goals as goal
 pub returns-clause-dull : goal.returns-clause-dull
 unfolding dull_at dull_in
 returns-clause-dull c =
-    let x = c.args.self.now.plan.context.now in
+    let x = c.args.self.now.context.now in
     let a : ℕ = c.args.at.0 in
-    let few = c.inputs.ensures ∙ ap (λ n. (net_of n).inputs) c.network.ensures.value ∙ ap (λ x. (net_in x).inputs) c.context.ensures in
+    let few = c.inputs.ensures ∙ ap (λ n. (net_of n).inputs) c.network.ensures.value in
     let leaves = leaves-put a c.inputs.result (net_in x).inputs c.put_bits.new.values _ c.put_bits.ensures few in
-    (rw c.walk-walked.ensures.context at c.lane_dull.ensures) (λ i l. bit_at a i) (c.walk-walked.ensures.shown _ leaves)
+    (rw (c.over.ensures.context, c.over.ensures.plain, c.over.ensures.turned) at c.lane_dull.ensures) (λ i l. bit_at a i) (c.walk_context.ensures.shown _ leaves)
