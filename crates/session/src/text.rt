@@ -10,6 +10,12 @@ pub(crate) fn number(word: &str) -> Option<u64> {
     Some(word.parse().unwrap_or(u64::MAX))
 }
 
+/// The hexadecimal digits.
+const DIGITS: [u8; 16] = *b"0123456789ABCDEF";
+
+/// How many bytes are printed together.
+const PART: usize = 32;
+
 /// Bytes in pairs of hexadecimal digits, `-` for none.
 #[derive(Clone, Copy)]
 pub(crate) struct Hex<'a>(pub(crate) &'a [u8]);
@@ -19,8 +25,18 @@ impl fmt::Display for Hex<'_> {
         if self.0.is_empty() {
             return f.write_str("-");
         }
-        for b in self.0 {
-            write!(f, "{b:02X}")?;
+        // The digits of some bytes together: a formatted number for each byte takes over twice the time.
+        for part in self.0.chunks(PART) {
+            let mut digits = [0u8; 2 * PART];
+            for (pair, b) in digits.chunks_exact_mut(2).zip(part) {
+                pair[0] = DIGITS[usize::from(b >> 4)];
+                pair[1] = DIGITS[usize::from(b & 15)];
+            }
+            // There is room for the digits of each part, and they are ASCII.
+            let text = digits
+                .get(..2 * part.len())
+                .and_then(|d| str::from_utf8(d).ok());
+            f.write_str(text.ok_or(fmt::Error)?)?;
         }
         Ok(())
     }

@@ -20,7 +20,8 @@ impl fmt::Display for FunctionBits<'_> {
     fn fmt<W: fmt::Write>(&self, f: &mut fmt::Formatter<W>) -> fmt::Result {
         // A minterm is a number, and no list holds them.
         for y in (0..1u16 << self.0.count.min(8)).rev() {
-            write!(f, "{}", u8::from(self.0.function.bit(Minterm(y))))?;
+            let bit = self.0.function.bit(Minterm(y));
+            f.write_str(if bit { "1" } else { "0" })?;
         }
         Ok(())
     }
