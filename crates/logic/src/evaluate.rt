@@ -3,11 +3,11 @@ ghost use Rattle.std.specs.Prelude.{◌≡◌, ℕ, ◌/◌, ◌%◌, ◌^◌, �
 ghost use Rattle.std.specs.List.{range_with_len};
 ghost use Rattle.network.specs.Limits.{minterms};
 ghost use Rattle.network.specs.Rows.{bit_at, no_signal};
-ghost use Rattle.network.specs.Nets.{size};
+ghost use Rattle.network.specs.Nets.{size, output_at};
 ghost use Rattle.network.specs.Parts.{net_of};
 ghost use Rattle.theory.specs.Values.{number, output};
 ghost use Rattle.logic.specs.Limits.{word_bits};
-ghost use Rattle.logic.specs.Walks.{over, AdmitOutputs};
+ghost use Rattle.logic.specs.Walks.{over, walked_into, AdmitOutputs};
 
 use crate::bits::Bits;
 use crate::front::put_front;
@@ -84,6 +84,8 @@ pub fn output_values<L: Logic>(
 )
     requires room { size (net_of network.now) ≤ length values.old }
     requires scratch { minterms ≤ length fold.old }
+    ensures walked { values.new ≡ walked_into L.Logic.picks L.Logic.constants None (net_of network.now) values.old values.old }
+    ensures values { (j : ℕ) (d : L.Value) → j < length (net_of network.now).outputs → j < length outputs.old → slice_index_or outputs.new j d ≡ slice_index_or values.new (output_at (net_of network.now) j) d }
     ensures admits { AdmitOutputs L.Logic.admits (net_of network.now) values.old outputs.new }
     ensures leaves { take (net_of network.now).inputs values.new ≡ take (net_of network.now).inputs values.old }
     ensures count { length outputs.new ≡ length outputs.old }

@@ -22,12 +22,15 @@ returns g c =
     let zero = g.L.Logic.constants false in
     let le : n ≤ length net.outputs = omega (arith, ap length same) in
     let long : length c.put_values.new.places ≡ length es = ap length (c.put_values.ensures zero) ∙ counted-length (f zero) n es (omega arith) in
+    let put : (j : ℕ) (d : V) → j < length net.outputs → j < length es → get_or c.put_values.new.places j d ≡ get_or vs (output_at net j) d =
+    λ j d few room.
+    let lt : j < n = omega (arith, ap length same) in
+    ap (λ (ws : List V). get_or ws j d) (c.put_values.ensures d) ∙ counted-at (f d) n es j d lt ∙ ap (λ (qs : List Signal). get_or vs (get_or qs j no_signal).0 d) same in
     record {
+      walked = c.walk.ensures.values;
+      values = put;
       admits = λ rows given j d few room.
-          let lt : j < n = omega (arith, ap length same, long) in
-          let here : get_or c.put_values.new.places j d ≡ get_or vs (output_at net j) d =
-          ap (λ (ws : List V). get_or ws j d) (c.put_values.ensures d) ∙ counted-at (f d) n es j d lt ∙ ap (λ (qs : List Signal). get_or vs (get_or qs j no_signal).0 d) same in
-          subst (λ (v : V). g.L.Logic.admits v (λ l. output None net (λ i. rows i l) j)) (sym here) (c.walk.ensures.admits rows given (output_at net j) d ((legal-net c.args.network.now).exit j few));
+          subst (λ (v : V). g.L.Logic.admits v (λ l. output None net (λ i. rows i l) j)) (sym (put j d few (omega (arith, long)))) (c.walk.ensures.admits rows given (output_at net j) d ((legal-net c.args.network.now).exit j few));
       leaves = c.walk.ensures.leaves;
       count = long;
       rest = ap (drop (length net.outputs)) (c.put_values.ensures zero) ∙ put_rest (f zero) n (length net.outputs) es le;
